@@ -1,0 +1,3 @@
+// Little-endian numbers, REALs and bits: what every layer above reads from a record and writes to a buffer.
+pub mod number;
+pub mod real;
