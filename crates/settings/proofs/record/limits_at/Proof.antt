@@ -1,0 +1,28 @@
+-- `settings::record::limits_at` meets its contract: seven REALs. Assumes nothing.
+use borrow.Author.Needs.{needs}
+use Rattle.settings.specs.Record.{limitsAt}
+use Rattle.settings.proofs.record.limits_at.Statement.{statement}
+use Rattle.settings.proofs.record.limits_at.Tie as tie
+
+returns : tie.Need-returns
+unfolding limitsAt
+returns c = cc
+
+pub limits-at-spec : {M : Type 1} → statement M
+limits-at-spec =
+    tie.close
+    (tie.spec
+    (λ c κs. search needs)
+    (λ c. search needs)
+    (λ c κs. search needs)
+    (λ c. search needs)
+    (λ c κs. search needs)
+    (λ c. search needs)
+    (λ c κs. search needs)
+    (λ c. search needs)
+    (λ c κs. search needs)
+    (λ c. search needs)
+    (λ c κs. search needs)
+    (λ c. search needs)
+    (λ c κs. search needs)
+    returns)

@@ -1,0 +1,17 @@
+-- Settings without alarms.
+use mathlib.Core.List.{List}
+use lib.ListN.{replicate}
+use Rattle.settings.specs.declared.alarm.Alarm.{Alarm}
+use Rattle.settings.specs.declared.alarm.Kind.the-variants.{Digital}
+use Rattle.settings.specs.declared.alarm.Settings.{Settings}
+
+-- what stands in a place that no alarm has
+abbrev pub blank : Alarm
+blank = record { flags = 0; duration = 0; kind = Digital 0 }
+
+unfoldable pub blanks : List Alarm
+blanks = replicate 24 blank
+
+-- a bank without alarms
+unfoldable pub empty : Settings
+empty = record { digital = 0; analog = 0; alarms = blanks }
