@@ -1,0 +1,2 @@
+// The image of settings: the writer, and the round trip through the reader.
+pub mod write;

@@ -1,0 +1,183 @@
+// The writer of a settings image.
+ghost use mathlib.Core.Path.{_≡_};
+ghost use Prim.Native.Nat.{_+_, _≤_, _<_};
+ghost use lib.ListN.{length};
+ghost use lib.Seq.{sets, slice};
+ghost use Rattle.wire.specs.Number.{words};
+ghost use Rattle.image.specs.Write.{severityWords, limitWords, digitalBytes, analogBytes, recordBytes, recordsBytes, sectionBytes, hasRoom, writtenOf, bufferOf};
+use settings::alarm::Alarm;
+use settings::alarm::Form;
+use settings::alarm::Kind;
+use settings::alarm::Limits;
+use settings::alarm::Settings;
+use settings::alarm::Severities;
+use settings::reply::Refusal;
+use wire::number::put_u8;
+use wire::number::put_u32;
+use wire::real::put_real;
+
+// The length of the image that was written, or the refusal.
+pub enum Written {
+    Length(usize),
+    Refused(Refusal),
+}
+
+fn put_severities(out: &mut [u8], at: usize, s: Severities)
+    requires { ⌜ at + 24 ≤ length (now out) ⌝ }
+    ensures { λ _. ⌜ now (out .exit) ≡ sets (now (out .entry)) at (words (severityWords s)) ⌝ }
+{
+    put_u32(out, at, s.hh);
+    put_u32(out, at + 4, s.h);
+    put_u32(out, at + 8, s.l);
+    put_u32(out, at + 12, s.ll);
+    put_u32(out, at + 16, s.rocpos);
+    put_u32(out, at + 20, s.rocneg);
+}
+
+fn put_limits(out: &mut [u8], at: usize, g: Limits)
+    requires { ⌜ at + 28 ≤ length (now out) ⌝ }
+    ensures { λ _. ⌜ now (out .exit) ≡ sets (now (out .entry)) at (words (limitWords g)) ⌝ }
+{
+    put_real(out, at, g.hh);
+    put_real(out, at + 4, g.h);
+    put_real(out, at + 8, g.l);
+    put_real(out, at + 12, g.ll);
+    put_real(out, at + 16, g.deadband);
+    put_real(out, at + 20, g.rocpos);
+    put_real(out, at + 24, g.rocneg);
+}
+
+fn put_digital(out: &mut [u8], at: usize, flags: u8, severity: u32, duration: u32)
+    requires { ⌜ at + 9 ≤ length (now out) ⌝ }
+    ensures { λ _. ⌜ now (out .exit) ≡ sets (now (out .entry)) at (digitalBytes flags severity duration) ⌝ }
+{
+    put_u8(out, at, flags);
+    put_u32(out, at + 1, severity);
+    put_u32(out, at + 5, duration);
+}
+
+fn put_analog(
+    out: &mut [u8],
+    at: usize,
+    flags: u8,
+    g: Limits,
+    s: Severities,
+    period: u32,
+    duration: u32,
+)
+    requires { ⌜ at + 61 ≤ length (now out) ⌝ }
+    ensures { λ _. ⌜ now (out .exit) ≡ sets (now (out .entry)) at (analogBytes flags g s period duration) ⌝ }
+{
+    put_u8(out, at, flags);
+    put_severities(out, at + 1, s);
+    put_limits(out, at + 25, g);
+    put_u32(out, at + 53, period);
+    put_u32(out, at + 57, duration);
+}
+
+// Writes an alarm's record and answers the offset past it.
+fn put_record(out: &mut [u8], at: usize, form: Form, alarm: Alarm) -> usize
+    requires { ⌜ at + length (recordBytes form alarm) ≤ length (now out) ⌝ }
+    ensures { λ r. ⌜ r ≡ at + length (recordBytes form alarm) ⌝ }
+    ensures { λ _. ⌜ now (out .exit) ≡ sets (now (out .entry)) at (recordBytes form alarm) ⌝ }
+{
+    let flags = alarm.flags;
+    let duration = alarm.duration;
+    let kind = alarm.kind;
+    match form {
+        Form::Digital => match kind {
+            Kind::Digital { severity } => {
+                put_digital(out, at, flags, severity, duration);
+                at + 9
+            }
+            Kind::Analog {
+                limits: _,
+                severities: _,
+                period: _,
+            } => at,
+        },
+        Form::Analog => match kind {
+            Kind::Digital { severity: _ } => at,
+            Kind::Analog {
+                limits,
+                severities,
+                period,
+            } => {
+                put_analog(out, at, flags, limits, severities, period, duration);
+                at + 61
+            }
+        },
+    }
+}
+
+// Writes the records of the alarms from place `first` to before `end` and answers the offset past them.
+fn put_records(
+    out: &mut [u8],
+    start: usize,
+    form: Form,
+    first: usize,
+    end: usize,
+    alarms: [Alarm; 24],
+) -> usize
+    requires { ⌜ end ≤ 24 ⌝ }
+    requires { ⌜ start + length (recordsBytes form (slice first end alarms)) ≤ length (now out) ⌝ }
+    ensures { λ r. ⌜ r ≡ start + length (recordsBytes form (slice first end alarms)) ⌝ }
+    ensures { λ _. ⌜ now (out .exit) ≡ sets (now (out .entry)) start (recordsBytes form (slice first end alarms)) ⌝ }
+{
+    let mut place = first;
+    let mut at = start;
+    while place < end {
+        at = put_record(out, at, form, alarms[place]);
+        place += 1;
+    }
+    at
+}
+
+fn put_section(
+    out: &mut [u8],
+    at: usize,
+    form: Form,
+    first: usize,
+    count: usize,
+    alarms: [Alarm; 24],
+) -> usize
+    requires { ⌜ (first ≤ 12) × (count ≤ 12) ⌝ }
+    requires { ⌜ at + length (sectionBytes form first count alarms) ≤ length (now out) ⌝ }
+    ensures { λ r. ⌜ r ≡ at + length (sectionBytes form first count alarms) ⌝ }
+    ensures { λ _. ⌜ now (out .exit) ≡ sets (now (out .entry)) at (sectionBytes form first count alarms) ⌝ }
+{
+    put_u8(out, at, count as u8);
+    put_records(out, at + 1, form, first, first + count, alarms)
+}
+
+// Whether settings with so many alarms have an image of at most `len` bytes.
+fn has_room(digital: usize, analog: usize, len: usize) -> bool
+    ensures { λ r. ⌜ r ≡ hasRoom digital analog len ⌝ }
+{
+    if 12 < digital {
+        return false;
+    }
+    if 12 < analog {
+        return false;
+    }
+    2 + 9 * digital + 61 * analog <= len
+}
+
+// Fills the front of `out` with the image of settings and leaves the rest, or refuses and leaves every byte.
+pub fn write(settings: Settings, out: &mut [u8]) -> Written
+    ensures { λ r. ⌜ r ≡ writtenOf settings (length (now (out .entry))) ⌝ }
+    ensures { λ _. ⌜ now (out .exit) ≡ bufferOf settings (now (out .entry)) ⌝ }
+{
+    let digital = settings.digital;
+    let analog = settings.analog;
+    let alarms = settings.alarms;
+    if !has_room(digital, analog, out.len()) {
+        return Written::Refused(Refusal {
+            number: 13,
+            place: 0,
+        });
+    }
+    let next = put_section(out, 0, Form::Digital, 0, digital, alarms);
+    let length = put_section(out, next, Form::Analog, digital, analog, alarms);
+    Written::Length(length)
+}
