@@ -1,3 +1,4 @@
 pub mod Laws
 pub mod Reals
+pub mod WordLaws
 mod Examples

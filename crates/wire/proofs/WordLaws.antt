@@ -1,0 +1,79 @@
+-- Laws of words made of bits. Assumes nothing.
+use mathlib.Core.Path.{_≡_, refl, sym, ap, _∙_}
+use mathlib.Core.Bool.{Bool, true, false, cond}
+use mathlib.Core.List.{List, [], _∷_, _++_}
+use Prim.Native.Nat.{ℕ, zero, suc, _+_, _*_, _/_, _%_, _^_, _<_}
+use native.Mathlib.Nat.{zero-add, one-mul, pow-zero, pow-succ', mul-add, mul-assoc, add-assoc, div-one, zero-div, div-div-eq-div-mul}
+use native.Mathlib.Omega.{arith}
+use lib.Dec.{eqb}
+use lib.Pow.{shr-shr}
+use lib.ListN.{length, getD}
+use Rattle.wire.specs.Bits.{bit, wordOf}
+
+half : (b : Bool) (w : ℕ) → (cond b 1 0 + 2 * w) / 2 ≡ w
+half true w = omega arith
+half false w = omega arith
+
+low : (b : Bool) (w : ℕ) → eqb ((cond b 1 0 + 2 * w) % 2) 1 ≡ b
+low true w = let e : (1 + 2 * w) % 2 ≡ 1 = omega arith in rw e refl
+low false w = let e : (0 + 2 * w) % 2 ≡ 0 = omega arith in rw e refl
+
+pub bit-zero : (w : ℕ) → bit w 0 ≡ eqb (w % 2) 1
+bit-zero w = rw (pow-zero, div-one) refl
+
+-- each bit is read back
+pub bit-word : (bs : List Bool) (k : ℕ) → bit (wordOf bs) k ≡ getD bs k false
+unfolding wordOf
+bit-word [] k = rw zero-div refl
+bit-word (b ∷ bs) zero = bit-zero (cond b 1 0 + 2 * wordOf bs) ∙ low b (wordOf bs)
+bit-word (b ∷ bs) (suc k) = rw (pow-succ', ← div-div-eq-div-mul, half) (bit-word bs k)
+
+-- bits in front of others
+pub word-append : (xs ys : List Bool) → wordOf (xs ++ ys) ≡ wordOf xs + 2 ^ length xs * wordOf ys
+unfolding wordOf
+word-append [] ys = simp (pow-zero, one-mul, zero-add)
+word-append (x ∷ xs) ys = simp (word-append xs ys, pow-succ', mul-add, mul-assoc, add-assoc)
+
+-- n bits are below 2 ^ n
+pub word-lt : (bs : List Bool) → wordOf bs < 2 ^ length bs
+unfolding wordOf
+word-lt [] = rw pow-zero (omega arith)
+word-lt (true ∷ bs) = omega (arith, word-lt bs, pow-succ' 2 (length bs))
+word-lt (false ∷ bs) = omega (arith, word-lt bs, pow-succ' 2 (length bs))
+
+-- two words, one above the other
+pub word-join : (xs ys : List Bool) {n m : ℕ} → n ≡ wordOf xs → m ≡ wordOf ys → n + 2 ^ length xs * m ≡ wordOf (xs ++ ys)
+word-join xs ys e f = rw (e, f) (sym (word-append xs ys))
+
+-- bits of a word without its lowest ones
+pub bit-shift : (w a j : ℕ) → bit (w / 2 ^ a) j ≡ bit w (a + j)
+bit-shift w a j = ap (λ (x : ℕ). eqb (x % 2) 1) (shr-shr w a j)
+
+-- three bits, and those above them
+pub word-halves : (a b c : Bool) (rest : List Bool) {w : ℕ} → w ≡ wordOf (a ∷ b ∷ c ∷ rest)
+    → (w % 8 ≡ wordOf (a ∷ b ∷ c ∷ [])) × (w / 8 ≡ wordOf rest)
+word-halves a b c rest h =
+    let s = h ∙ word-append (a ∷ b ∷ c ∷ []) rest in
+    let l = word-lt (a ∷ b ∷ c ∷ []) in
+    (omega arith, omega arith)
+
+-- the lowest bit
+pub word-low : (b : Bool) (rest : List Bool) {w : ℕ} → w ≡ wordOf (b ∷ rest) → eqb (w % 2) 1 ≡ b
+unfolding wordOf
+word-low b rest h = rw h (low b (wordOf rest))
+
+-- six threes of bits
+pub word-threes : (x₀ x₁ x₂ x₃ x₄ x₅ : List Bool) → length x₀ ≡ 3 → length x₁ ≡ 3 → length x₂ ≡ 3 → length x₃ ≡ 3 → length x₄ ≡ 3
+    → wordOf x₀ + 8 * wordOf x₁ + 64 * wordOf x₂ + 512 * wordOf x₃ + 4096 * wordOf x₄ + 32768 * wordOf x₅ ≡ wordOf (x₀ ++ (x₁ ++ (x₂ ++ (x₃ ++ (x₄ ++ x₅)))))
+word-threes x₀ x₁ x₂ x₃ x₄ x₅ l₀ l₁ l₂ l₃ l₄ =
+    let three : (x y : List Bool) → length x ≡ 3 → wordOf (x ++ y) ≡ wordOf x + 8 * wordOf y =
+    λ x y l. word-append x y ∙ ap (λ (k : ℕ). wordOf x + 2 ^ k * wordOf y) l
+    in
+    omega (
+      arith,
+      three x₀ (x₁ ++ (x₂ ++ (x₃ ++ (x₄ ++ x₅)))) l₀,
+      three x₁ (x₂ ++ (x₃ ++ (x₄ ++ x₅))) l₁,
+      three x₂ (x₃ ++ (x₄ ++ x₅)) l₂,
+      three x₃ (x₄ ++ x₅) l₃,
+      three x₄ x₅ l₄,
+    )

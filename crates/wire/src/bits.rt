@@ -1,0 +1,24 @@
+// Words made of bits, the lowest first.
+ghost use mathlib.Core.Path.{_≡_};
+ghost use mathlib.Core.Bool.{cond};
+ghost use mathlib.Core.List.{[], _∷_};
+ghost use Prim.Native.Nat.{_<_, _≤_};
+ghost use Rattle.wire.specs.Bits.{wordOf};
+
+fn one(b: bool) -> u32
+    ensures { λ r. ⌜ (r ≡ cond b 1 0) × (r ≤ 1) ⌝ }
+{
+    if b { 1 } else { 0 }
+}
+
+pub fn word3(a: bool, b: bool, c: bool) -> u32
+    ensures { λ r. ⌜ (r ≡ wordOf (a ∷ b ∷ c ∷ [])) × (r < 8) ⌝ }
+{
+    one(a) + 2 * one(b) + 4 * one(c)
+}
+
+pub fn word6(a: bool, b: bool, c: bool, d: bool, e: bool, f: bool) -> u32
+    ensures { λ r. ⌜ (r ≡ wordOf (a ∷ b ∷ c ∷ d ∷ e ∷ f ∷ [])) × (r < 64) ⌝ }
+{
+    word3(a, b, c) + 8 * word3(d, e, f)
+}
