@@ -1,0 +1,49 @@
+-- What an alarm's command word commands. Bits 0, 1, 6 and 13 to 18 command only where the previous accepted scan had them clear; the others
+-- act in every scan that sets them.
+use Prim.Native.Nat.{ℕ, _+_}
+use mathlib.Core.Bool.{Bool, not, _&&_, _||_}
+use mathlib.Core.List.{List, [], _∷_}
+use Rattle.wire.specs.Bits.{bit}
+
+-- set, and clear in the previous word
+abbrev pub rises : ℕ → ℕ → ℕ → Bool
+rises word previous k = bit word k && not (bit previous k)
+
+-- ProgEnable, OperEnable
+abbrev pub enables : ℕ → Bool
+enables word = bit word 3 || bit word 10
+
+-- ProgDisable, OperDisable
+abbrev pub disables : ℕ → Bool
+disables word = bit word 2 || bit word 9
+
+-- ProgSuppress, OperSuppress
+abbrev pub suppresses : ℕ → Bool
+suppresses word = bit word 4 || bit word 11
+
+-- ProgUnsuppress, OperUnsuppress
+abbrev pub unsuppresses : ℕ → Bool
+unsuppresses word = bit word 5 || bit word 12
+
+-- AlarmCountReset
+abbrev pub countResets : ℕ → ℕ → Bool
+countResets word previous = rises word previous 6
+
+-- ProgReset, OperReset
+abbrev pub resets : ℕ → ℕ → Bool
+resets word previous = rises word previous 1 || bit word 8
+
+-- ProgAck (ProgAckAll), OperAck (OperAckAll)
+abbrev pub acksAll : ℕ → ℕ → Bool
+acksAll word previous = rises word previous 0 || bit word 7
+
+-- that, or the own program or operator acknowledgement of the condition that stands at k among HH, H, L, LL, ROCPos, ROCNeg
+abbrev pub acksOne : ℕ → ℕ → ℕ → Bool
+acksOne word previous k = acksAll word previous || rises word previous (13 + k) || bit word (19 + k)
+
+-- InFault
+abbrev pub faults : ℕ → Bool
+faults word = bit word 25
+
+unfoldable pub ackBits : ℕ → ℕ → List Bool
+ackBits w p = acksOne w p 0 ∷ acksOne w p 1 ∷ acksOne w p 2 ∷ acksOne w p 3 ∷ acksOne w p 4 ∷ acksOne w p 5 ∷ []

@@ -1,0 +1,4 @@
+pub mod Command
+pub mod Outcome
+pub mod Mode
+pub mod Mark

@@ -1,0 +1,21 @@
+-- The modes of an alarm: enabled or disabled, suppressed, InFaulted; and the events of the whole alarm.
+use Prim.Native.Nat.{ℕ}
+use mathlib.Core.Bool.{Bool, false, not, _&&_, _||_}
+use mathlib.Core.List.{List, [], _∷_}
+use Rattle.condition.specs.Command.{enables, disables, suppresses, unsuppresses, countResets, faults}
+
+-- enable if any enable bit, else disable if any disable bit
+abbrev pub disabledAfter : ℕ → Bool → Bool
+disabledAfter word disabled = not (enables word) && (disables word || disabled)
+
+-- unsuppress if any unsuppress bit, else suppress if any suppress bit
+abbrev pub suppressedAfter : ℕ → Bool → Bool
+suppressedAfter word suppressed = not (unsuppresses word) && (suppresses word || suppressed)
+
+-- disabled, suppressed and InFaulted after the scan, then the events 1 to 5
+unfoldable pub modeBits : Bool → Bool → ℕ → ℕ → List Bool
+modeBits disabled suppressed word previous =
+    disabledAfter word disabled ∷ suppressedAfter word suppressed ∷ faults word
+    ∷ (disabledAfter word disabled && not disabled) ∷ (not (disabledAfter word disabled) && disabled)
+    ∷ (suppressedAfter word suppressed && not suppressed) ∷ (not (suppressedAfter word suppressed) && suppressed)
+    ∷ countResets word previous ∷ false ∷ []

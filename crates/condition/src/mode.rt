@@ -1,0 +1,32 @@
+// The modes of an alarm.
+ghost use mathlib.Core.Path.{_≡_};
+ghost use Prim.Native.Nat.{_<_};
+ghost use Rattle.wire.specs.Bits.{bit, wordOf};
+ghost use Rattle.condition.specs.Mode.{modeBits};
+use wire::bits::word3;
+use wire::bits::word6;
+
+// One scan of an alarm's modes. Of `digit`, bit 0 is disabled and bit 1 suppressed. The result has these anew, InFaulted in
+// bit 2, and in bits 3 to 7 disabled, enabled, suppressed, unsuppressed and count reset as events.
+pub fn modes(digit: u32, word: u32, previous: u32) -> u32
+    ensures { λ r. ⌜ (r ≡ wordOf (modeBits (bit digit 0) (bit digit 1) word previous)) × (r < 512) ⌝ }
+{
+    let disabled = digit % 2 == 1;
+    let suppressed = digit / 2 % 2 == 1;
+    let enables = (word / 8 % 2 == 1) | (word / 1024 % 2 == 1);
+    let disables = (word / 4 % 2 == 1) | (word / 512 % 2 == 1);
+    let suppresses = (word / 16 % 2 == 1) | (word / 2048 % 2 == 1);
+    let unsuppresses = (word / 32 % 2 == 1) | (word / 4096 % 2 == 1);
+    let disabled_after = !enables & (disables | disabled);
+    let suppressed_after = !unsuppresses & (suppresses | suppressed);
+    let resets = (word / 64 % 2 == 1) & !(previous / 64 % 2 == 1);
+    let low = word6(
+        disabled_after,
+        suppressed_after,
+        word / 33_554_432 % 2 == 1,
+        disabled_after & !disabled,
+        !disabled_after & disabled,
+        suppressed_after & !suppressed,
+    );
+    low + 64 * word3(!suppressed_after & suppressed, resets, false)
+}
