@@ -1,0 +1,82 @@
+-- A stepped alarm put together from its words. Assumes nothing.
+use mathlib.Core.Path.{_≡_, refl, ap, fun-ext}
+use mathlib.Core.Bool.{Bool, false, not}
+use mathlib.Core.List.{List, [], _∷_}
+use Prim.Native.Nat.{ℕ, _+_, _*_, _/_, _%_}
+use native.Mathlib.Omega.{arith}
+use lib.ListN.{getD, take, drop}
+use lib.Ieee.{Float}
+use Rattle.settings.specs.declared.alarm.Limits.{Limits}
+use Rattle.level.specs.Level.{metBits, freesBits}
+use Rattle.condition.specs.Command.{ackBits}
+use Rattle.wire.specs.Bits.{bit, wordOf}
+use Rattle.wire.proofs.WordLaws.{bit-word, word-halves, word-join}
+use Rattle.condition.specs.Mode.{modeBits}
+use Rattle.condition.specs.Outcome.{toldOf, outcomeBits}
+use Rattle.alarm.specs.Held.{lookDigital, digitalFlags, High, Low, AnalogHeld, lookAnalog, analogFlags}
+use Rattle.alarm.specs.Digital.{digitalTold, digitalAfter, digitalEvents}
+use Rattle.alarm.specs.Cells.{cell, six, cellsOf}
+use Rattle.alarm.specs.Packed.{readyBits, startsAfter, decided}
+use Rattle.alarm.specs.Analog.{analogAfter, analogEvents}
+use Rattle.alarm.specs.declared.state.State.{State}
+
+-- modes, three free bits, and one condition
+nine-bits : (d s f a u r : Bool) → wordOf (d ∷ s ∷ f ∷ []) + 64 * wordOf (a ∷ u ∷ r ∷ []) ≡ wordOf (d ∷ s ∷ f ∷ false ∷ false ∷ false ∷ a ∷ u ∷ r ∷ [])
+unfolding wordOf
+nine-bits d s f a u r = omega arith
+
+module _ (flags duration : ℕ) (s : State) (input : Bool) (word time : ℕ) {m c : ℕ}
+    (p : m ≡ wordOf (modeBits (bit (s .flags) 0) (bit (s .flags) 1) word (s .previous)))
+    (q : c ≡ wordOf (outcomeBits (digitalTold flags duration input word time (lookDigital s)) (bit (s .flags) 6) (bit (s .flags) 7))) where
+  pub digital-flags : m % 8 + 64 * (c % 8) ≡ wordOf (digitalFlags (digitalAfter flags duration input word time (lookDigital s)))
+  unfolding modeBits
+  digital-flags = rw (word-halves _ _ _ _ p .0, word-halves _ _ _ _ q .0) (nine-bits _ _ _ _ _ _)
+
+  pub digital-events : m / 8 + 64 * (c / 8) ≡ wordOf (digitalEvents flags duration input word time (lookDigital s))
+  unfolding modeBits
+  digital-events = word-join (_ ∷ _ ∷ _ ∷ _ ∷ _ ∷ _ ∷ []) _ (word-halves _ _ _ _ p .1) (word-halves _ _ _ _ q .1)
+
+-- ---- an analog alarm
+
+-- the words of six bits are read bit by bit
+cell-lists : (flags : ℕ) (enabled required : Bool) (met frees ready acks : List Bool) (k : ℕ)
+    → cell flags enabled (wordOf met) (wordOf frees) (wordOf ready) (wordOf acks) required k
+    ≡ outcomeBits (toldOf enabled (getD met k false) (getD frees k false) (getD ready k false) (getD acks k false) required) (bit flags (6 + 3 * k)) (bit flags (7 + 3 * k))
+cell-lists flags enabled required met frees ready acks k = rw (bit-word met k, bit-word frees k, bit-word ready k, bit-word acks k)
+
+-- modes, the sample and the runs, and the conditions
+flags-join : (d s f e h l : Bool) (cells : List Bool) → wordOf (d ∷ s ∷ f ∷ []) + 8 * wordOf (e ∷ h ∷ l ∷ []) + 64 * wordOf cells ≡ wordOf (d ∷ s ∷ f ∷ e ∷ h ∷ l ∷ cells)
+unfolding wordOf
+flags-join d s f e h l cells = omega arith
+
+module _ (flags duration : ℕ) (g : Limits) (period : ℕ) (s : State) (x : Float) (word time : ℕ) where
+  abbrev pub after : AnalogHeld
+  after = analogAfter flags duration g period x word time (lookAnalog s)
+
+  -- the outcomes of the six, from the lists of bits
+  abbrev pub outcomes : ℕ → List Bool
+  outcomes k =
+      outcomeBits
+      (toldOf (not (after .disabled)) (getD (metBits flags g period x (after .sample .rate)) k false) (getD (freesBits g x) k false)
+      (getD (readyBits (s .flags) (after .run High .start) (after .run Low .start) duration time) k false) (getD (ackBits word (s .previous)) k false) (bit flags 4))
+      (bit (s .flags) (6 + 3 * k)) (bit (s .flags) (7 + 3 * k))
+
+  pub decided-is : decided flags duration g (startsAfter s time) (not (after .disabled)) (wordOf (metBits flags g period x (after .sample .rate))) x word time
+      ≡ record { kept = wordOf (six (take 3) outcomes); events = wordOf (six (drop 3) outcomes) }
+  unfolding decided cellsOf startsAfter
+  decided-is =
+      let e : _≡_ {A = ℕ → List Bool} (cell (s .flags) (not (after .disabled)) (wordOf (metBits flags g period x (after .sample .rate))) (wordOf (freesBits g x)) (wordOf (readyBits (s .flags) (after .run High .start) (after .run Low .start) duration time)) (wordOf (ackBits word (s .previous))) (bit flags 4)) outcomes =
+      fun-ext (cell-lists (s .flags) (not (after .disabled)) (bit flags 4) (metBits flags g period x (after .sample .rate)) (freesBits g x) (readyBits (s .flags) (after .run High .start) (after .run Low .start) duration time) (ackBits word (s .previous)))
+      in
+      ap (λ (o : ℕ → List Bool). record { kept = wordOf (six (take 3) o); events = wordOf (six (drop 3) o) }) e
+
+  pub analog-flags : {m r : ℕ} → m ≡ wordOf (modeBits (bit (s .flags) 0) (bit (s .flags) 1) word (s .previous))
+      → r ≡ wordOf (after .held ∷ after .run High .on ∷ after .run Low .on ∷ [])
+      → m % 8 + 8 * r + 64 * wordOf (six (take 3) outcomes) ≡ wordOf (analogFlags after)
+  unfolding modeBits readyBits
+  analog-flags p q = rw (word-halves _ _ _ _ p .0, q) (flags-join _ _ _ _ _ _ (six (take 3) outcomes))
+
+  pub analog-events : {m : ℕ} → m ≡ wordOf (modeBits (bit (s .flags) 0) (bit (s .flags) 1) word (s .previous))
+      → m / 8 + 64 * wordOf (six (drop 3) outcomes) ≡ wordOf (analogEvents flags duration g period x word time (lookAnalog s))
+  unfolding modeBits readyBits
+  analog-events p = word-join (_ ∷ _ ∷ _ ∷ _ ∷ _ ∷ _ ∷ []) (six (drop 3) outcomes) (word-halves _ _ _ _ p .1) refl

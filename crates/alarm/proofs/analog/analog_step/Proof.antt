@@ -1,0 +1,59 @@
+-- `alarm::analog::analog_step` meets its contract: modes, the sample, the conditions and the runs, packed. Assumes nothing.
+use borrow.Author.Needs.{needs}
+use mathlib.Core.Path.{_≡_, ap, ap₂, _∙_}
+use mathlib.Core.Bool.{false}
+use mathlib.Core.List.{[], _∷_}
+use Prim.Native.Nat.{ℕ}
+use lib.ListN.{getD, take, drop}
+use Rattle.wire.specs.Bits.{bit, wordOf}
+use Rattle.wire.proofs.WordLaws.{bit-word, word-low}
+use Rattle.level.specs.Level.{metBits}
+use Rattle.condition.specs.Mode.{modeBits}
+use Rattle.alarm.specs.Held.{High, Low, packed}
+use Rattle.alarm.specs.Cells.{six}
+use Rattle.alarm.specs.Packed.{resampled, startsAfter}
+use Rattle.alarm.specs.Analog.{analogStep}
+use Rattle.alarm.proofs.Assemble.{after, outcomes, decided-is, analog-flags, analog-events}
+use Rattle.alarm.proofs.analog.analog_step.Statement.{statement}
+use Rattle.alarm.proofs.analog.analog_step.Tie as tie
+
+returns : tie.Need-returns
+unfolding analogStep modeBits metBits resampled startsAfter
+returns c =
+    let a = c .before .before .before .before .before .before .before .before .args in
+    let s = a .s in
+    let next = after (a .flags) (a .duration) (a .g) (a .period) s (a .x) (a .word) (a .time) in
+    let o = outcomes (a .flags) (a .duration) (a .g) (a .period) s (a .x) (a .word) (a .time) in
+    let m = c .before .before .before .before .before .before .before .modes .ensures .0 in
+    let disabled = word-low _ _ m in
+    let sample : c .before .before .before .before .before .before .resample .result ≡ next .sample = c .before .before .before .before .before .before .resample .ensures ∙ rw disabled in
+    let bits = metBits (a .flags) (a .g) (a .period) (a .x) (next .sample .rate) in
+    let met : c .before .before .before .before .before .met-word .result ≡ wordOf bits = c .before .before .before .before .before .met-word .ensures .0 ∙ rw sample in
+    let cells : c .before .before .before .conditions .result ≡ record { kept = wordOf (six (take 3) o); events = wordOf (six (drop 3) o) } =
+    c .before .before .before .conditions .ensures .0 ∙ rw (c .before .before .before .before .restart .ensures, disabled, met) (decided-is (a .flags) (a .duration) (a .g) (a .period) s (a .x) (a .word) (a .time))
+    in
+    let bit-of : (k : ℕ) → bit (c .before .before .before .before .before .met-word .result) k ≡ getD bits k false = λ k. ap (λ (w : ℕ). bit w k) met ∙ bit-word bits k in
+    let runs : c .before .before .word3 .result ≡ wordOf (next .held ∷ next .run High .on ∷ next .run Low .on ∷ []) =
+    c .before .before .word3 .ensures .0 ∙ rw (disabled, word-low _ _ met, bit-of 1, bit-of 2, bit-of 3)
+    in
+    let flags = analog-flags (a .flags) (a .duration) (a .g) (a .period) s (a .x) (a .word) (a .time) m runs in
+    let events = analog-events (a .flags) (a .duration) (a .g) (a .period) s (a .x) (a .word) (a .time) m in
+    rw (cells, c .before .before .before .before .restart .ensures, sample) (ap₂ (λ (f e : ℕ). record { state = packed next f; events = e }) flags events)
+
+pub analog-step-spec : {M : Type 1} → statement M
+analog-step-spec =
+    tie.close
+    (tie.spec
+    (λ c κs. search needs)
+    (λ c κs. search needs)
+    (λ c κs. search needs)
+    (λ c κs. search needs)
+    (λ c κs. search needs)
+    (λ c κs. search needs)
+    (λ c. search needs)
+    (λ c. search needs)
+    (λ c. search needs)
+    (λ c. search needs)
+    (λ c. search needs)
+    (λ c. search needs)
+    returns)

@@ -1,0 +1,52 @@
+-- The events of one alarm in one scan, from its event bits, in document 01's order.
+use Prim.Native.Nat.{ℕ, suc, _+_, _-_, _/_, _%_}
+use mathlib.Core.Bool.{Bool, cond}
+use mathlib.Core.List.{List, [], _∷_}
+use lib.Dec.{ltb}
+use lib.ListN.{getD}
+use Rattle.settings.specs.declared.alarm.Kind.{Kind}
+use Rattle.settings.specs.declared.alarm.Kind.the-variants.{Digital, Analog}
+use Rattle.condition.specs.Mark.{acting}
+
+pub record Event : Type 0 where
+  pub alarm : ℕ
+  -- 0 digital, 1 to 6 HH, H, L, LL, ROCPos, ROCNeg, 7 the whole alarm
+  pub condition : ℕ
+  -- 1 disabled, 2 enabled, 3 suppressed, 4 unsuppressed, 5 count reset, 6 acknowledged, 7 returned, 8 activated
+  pub kind : ℕ
+  -- whether the alarm is suppressed after the scan's commands
+  pub suppressed : Bool
+  pub severity : ℕ
+  pub time : ℕ
+
+-- bits 0 to 4 are kinds 1 to 5; from bit 6 on, three to a condition, kinds 6, 7, 8
+abbrev pub kindAt : ℕ → ℕ
+kindAt k = cond (ltb k 6) (k + 1) (6 + (k - 6) % 3)
+
+-- the condition of a bit
+abbrev pub conditionAt : Kind → ℕ → ℕ
+conditionAt (Digital severity) k = cond (ltb k 6) 7 0
+conditionAt (Analog g s period) k = cond (ltb k 6) 7 (1 + (k - 6) / 3)
+
+-- the acting severity of a condition's event, 0 for the whole alarm
+abbrev pub actingAt : Kind → ℕ → ℕ
+actingAt (Digital severity) c = cond (ltb c 7) (acting severity) 0
+actingAt (Analog g s period) c =
+    cond (ltb c 7) (acting (getD (s .hh ∷ s .h ∷ s .l ∷ s .ll ∷ s .rocpos ∷ s .rocneg ∷ []) (c - 1) 0)) 0
+
+abbrev pub eventAt : ℕ → Kind → Bool → ℕ → ℕ → Event
+eventAt alarm kind suppressed time k =
+    record {
+      alarm = alarm;
+      condition = conditionAt kind k;
+      kind = kindAt k;
+      suppressed = suppressed;
+      severity = actingAt kind (conditionAt kind k);
+      time = time;
+    }
+
+-- an event for each bit that is set, from bit k on
+unfoldable pub eventsFrom : ℕ → Kind → Bool → ℕ → ℕ → List Bool → List Event
+eventsFrom alarm kind suppressed time k [] = []
+eventsFrom alarm kind suppressed time k (b ∷ bs) =
+    cond b (eventAt alarm kind suppressed time k ∷ eventsFrom alarm kind suppressed time (suc k) bs) (eventsFrom alarm kind suppressed time (suc k) bs)

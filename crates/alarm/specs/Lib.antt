@@ -1,0 +1,7 @@
+pub mod Held
+pub mod Digital
+pub mod Analog
+pub mod Cells
+pub mod Packed
+pub mod Step
+pub mod Events

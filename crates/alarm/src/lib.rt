@@ -1,0 +1,6 @@
+// The step of one alarm in one scan, digital or analog.
+pub mod analog;
+pub mod cells;
+pub mod digital;
+pub mod state;
+pub mod step;
