@@ -1,0 +1,5 @@
+pub mod Modes
+pub mod Digital
+pub mod Analog
+pub mod Marks
+mod Examples
