@@ -1,1 +1,3 @@
 mod Assemble
+mod Marked
+pub mod Laws

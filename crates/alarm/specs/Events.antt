@@ -23,16 +23,23 @@ pub record Event : Type 0 where
 abbrev pub kindAt : ℕ → ℕ
 kindAt k = cond (ltb k 6) (k + 1) (6 + (k - 6) % 3)
 
+-- the condition of a bit from 6 on
+abbrev pub ownCondition : Kind → ℕ → ℕ
+ownCondition (Digital severity) k = 0
+ownCondition (Analog g s period) k = 1 + (k - 6) / 3
+
 -- the condition of a bit
 abbrev pub conditionAt : Kind → ℕ → ℕ
-conditionAt (Digital severity) k = cond (ltb k 6) 7 0
-conditionAt (Analog g s period) k = cond (ltb k 6) 7 (1 + (k - 6) / 3)
+conditionAt kind k = cond (ltb k 6) 7 (ownCondition kind k)
+
+-- the stored severity of a condition
+abbrev pub storedSeverity : Kind → ℕ → ℕ
+storedSeverity (Digital severity) c = severity
+storedSeverity (Analog g s period) c = getD (s .hh ∷ s .h ∷ s .l ∷ s .ll ∷ s .rocpos ∷ s .rocneg ∷ []) (c - 1) 0
 
 -- the acting severity of a condition's event, 0 for the whole alarm
 abbrev pub actingAt : Kind → ℕ → ℕ
-actingAt (Digital severity) c = cond (ltb c 7) (acting severity) 0
-actingAt (Analog g s period) c =
-    cond (ltb c 7) (acting (getD (s .hh ∷ s .h ∷ s .l ∷ s .ll ∷ s .rocpos ∷ s .rocneg ∷ []) (c - 1) 0)) 0
+actingAt kind c = cond (ltb c 7) (acting (storedSeverity kind c)) 0
 
 abbrev pub eventAt : ℕ → Kind → Bool → ℕ → ℕ → Event
 eventAt alarm kind suppressed time k =

@@ -2,3 +2,4 @@ pub mod Words
 pub mod Condition
 pub mod Demand
 pub mod Laws
+mod Examples

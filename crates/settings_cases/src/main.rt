@@ -1,30 +1,21 @@
 // Reads test cases from standard input, runs the settings reader and writer on each, and prints what they answer.
-mod buffer;
 mod parse;
 mod show;
 mod writes;
 
 ghost use Prim.Native.Nat.{_≤_};
 ghost use lib.ListN.{length};
-use crate::buffer::append;
-use crate::parse::find;
 use crate::parse::put_image;
 use crate::show::put_bank;
 use crate::show::put_reply;
 use crate::writes::put_writes;
+use case_text::output::echo;
+use case_text::output::print;
+use case_text::parse::find;
 use libc::STDIN_FILENO;
-use libc::STDOUT_FILENO;
 use settings::read::Loaded;
 use settings::read::read;
 use settings::reply::Reply;
-
-// Writes a line that is collected, with its line end.
-fn print(line: &mut [u8], at: usize)
-    requires { ⌜ at ≤ length (now line) ⌝ }
-{
-    let end = append(line, at, b"\n");
-    io::write_all(STDOUT_FILENO, &line[..end]);
-}
 
 // Collects a line: the reader's answer, then what the writer does with the settings that came back. The writer should
 // give the image that was accepted, or the two counts 0 of a bank without alarms.
@@ -48,12 +39,6 @@ fn run_case(text: &[u8]) {
     let loaded = read(&image[..length]);
     let mut line = [0u8; 1024];
     let end = put_answers(&mut line, loaded, &image[..length]);
-    print(&mut line, end);
-}
-
-fn echo(text: &[u8]) {
-    let mut line = [0u8; 1024];
-    let end = append(&mut line, 0, text);
     print(&mut line, end);
 }
 

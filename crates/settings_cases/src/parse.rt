@@ -2,33 +2,9 @@
 // front, `12*00`, that says how often they stand. The token `-` has no pair, so a line of it is the image of no bytes.
 ghost use Prim.Native.Nat.{_≤_, _<_};
 ghost use lib.ListN.{length};
-use crate::buffer::push;
-
-// Where a mark first stands in a text from `from` on, or the text's length.
-pub fn find(text: &[u8], from: usize, mark: u8) -> usize
-    requires { ⌜ from ≤ length (now text) ⌝ }
-    ensures { λ r. ⌜ (from ≤ r) × (r ≤ length (now (text .entry))) ⌝ }
-{
-    let mut i = from;
-    while i < text.len() {
-        if text[i] == mark {
-            return i;
-        }
-        i += 1;
-    }
-    i
-}
-
-// The value of a hex digit; any other character counts as 0.
-fn digit(c: u8) -> u8
-    ensures { λ r. ⌜ r < 16 ⌝ }
-{
-    match c {
-        b'0'..=b'9' => c - b'0',
-        b'A'..=b'F' => c - b'A' + 10,
-        _ => 0,
-    }
-}
+use case_text::buffer::push;
+use case_text::parse::digit;
+use case_text::parse::find;
 
 // The number below 1,000 that decimal digits spell; of a longer one its last three digits.
 fn number(text: &[u8]) -> usize {

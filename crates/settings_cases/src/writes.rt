@@ -2,10 +2,11 @@
 // 1,024 bytes of 0xA5, so a write beyond it would be seen.
 ghost use Prim.Native.Nat.{_≤_};
 ghost use lib.ListN.{length};
-use crate::buffer::append;
-use crate::show::put_number;
 use crate::show::put_refusal;
-use crate::show::put_word;
+use case_text::buffer::append;
+use case_text::parse::begins_with;
+use case_text::show::put_number;
+use case_text::show::put_word;
 use image::write::Written;
 use image::write::write;
 use settings::alarm::Settings;
@@ -23,18 +24,8 @@ fn is_kept(out: &[u8; 1024], from: usize) -> bool {
 }
 
 // Whether a buffer begins with an image.
-fn begins_with(out: &[u8; 1024], image: &[u8]) -> bool {
-    if 1024 < image.len() {
-        return false;
-    }
-    let mut i = 0;
-    while i < image.len() {
-        if out[i] != image[i] {
-            return false;
-        }
-        i += 1;
-    }
-    true
+fn holds(out: &[u8; 1024], image: &[u8]) -> bool {
+    begins_with(out, image)
 }
 
 // The length of the image of so many alarms. Counts over 12 have none; the line shows them, so any length does.
@@ -64,7 +55,7 @@ fn put_write(line: &mut [u8], at: usize, settings: Settings, size: usize, image:
         }
         Written::Length(length) => {
             let mut end = put_number(line, at, length as u64);
-            let is_same = (length == image.len()) & begins_with(&out, image);
+            let is_same = (length == image.len()) & holds(&out, image);
             end = put_word(line, end, is_same, b" same", b" differs");
             put_word(line, end, is_kept(&out, length), b" kept", b" touched")
         }

@@ -1,0 +1,239 @@
+-- Laws of one alarm's step: what is packed is read back, how many events a scan has, what a disabled alarm keeps and writes, and what
+-- suppression changes. Assumes nothing.
+use mathlib.Core.Path.{_≡_, refl, fun-ext}
+use mathlib.Core.Bool.{Bool, true, false, not, _&&_, _||_, cond}
+use mathlib.Core.List.{List, [], _∷_, _++_}
+use Prim.Native.Nat.{ℕ, suc, _+_, _≤_}
+use native.Mathlib.Omega.{arith}
+use lib.Ieee.{Float, binary32, ofBits}
+use lib.Dec.{eqb}
+use lib.ListN.{length, take, drop}
+use Rattle.wire.specs.Bits.{bit}
+use Rattle.wire.proofs.WordLaws.{bit-word}
+use Rattle.settings.specs.declared.alarm.Limits.{Limits}
+use Rattle.settings.specs.declared.alarm.Kind.{Kind}
+use Rattle.history.specs.Condition.{Told, acknowledges, returns, activates}
+use Rattle.level.specs.Rate.{sampleAfter}
+use Rattle.condition.specs.Command.{enables, disables, countResets, resets, acksAll, ackBits, faults}
+use Rattle.condition.specs.Mode.{disabledAfter, suppressedAfter}
+use Rattle.alarm.specs.Held.{DigitalHeld, lookDigital, digitalFlags, hideDigital, Six, HH, H, L, LL, ROCPos, ROCNeg, Side, High, Low, AnalogHeld, runOf, cellOf, lookAnalog, analogFlags, hideAnalog}
+use Rattle.alarm.specs.Digital.{wholeEvents, digitalTold, digitalAfter, digitalEvents}
+use Rattle.alarm.specs.Analog.{analogTold, cellAfter, analogAfter, cellEvents, analogEvents}
+use Rattle.alarm.specs.Events.{eventsFrom}
+use Rattle.alarm.specs.declared.state.State.{State}
+
+-- ---- what is packed is read back
+
+pub look-digital : (s : State) (d : DigitalHeld) → lookDigital (hideDigital s d) ≡ d
+look-digital s d =
+    rw (
+      bit-word (digitalFlags d) 0,
+      bit-word (digitalFlags d) 1,
+      bit-word (digitalFlags d) 2,
+      bit-word (digitalFlags d) 6,
+      bit-word (digitalFlags d) 7,
+      bit-word (digitalFlags d) 8,
+    )
+
+run-back : (a : AnalogHeld) (s : Side) → runOf (hideAnalog a) s ≡ a .run s
+run-back a High = rw (bit-word (analogFlags a) 4)
+run-back a Low = rw (bit-word (analogFlags a) 5)
+
+cell-back : (a : AnalogHeld) (c : Six) → cellOf (hideAnalog a) c ≡ a .cell c
+cell-back a HH = rw (bit-word (analogFlags a) 6, bit-word (analogFlags a) 7, bit-word (analogFlags a) 8)
+cell-back a H = rw (bit-word (analogFlags a) 9, bit-word (analogFlags a) 10, bit-word (analogFlags a) 11)
+cell-back a L = rw (bit-word (analogFlags a) 12, bit-word (analogFlags a) 13, bit-word (analogFlags a) 14)
+cell-back a LL = rw (bit-word (analogFlags a) 15, bit-word (analogFlags a) 16, bit-word (analogFlags a) 17)
+cell-back a ROCPos = rw (bit-word (analogFlags a) 18, bit-word (analogFlags a) 19, bit-word (analogFlags a) 20)
+cell-back a ROCNeg = rw (bit-word (analogFlags a) 21, bit-word (analogFlags a) 22, bit-word (analogFlags a) 23)
+
+pub look-analog : (a : AnalogHeld) → lookAnalog (hideAnalog a) ≡ a
+look-analog a =
+    rw (
+      bit-word (analogFlags a) 0,
+      bit-word (analogFlags a) 1,
+      bit-word (analogFlags a) 2,
+      bit-word (analogFlags a) 3,
+      fun-ext (run-back a),
+      fun-ext (cell-back a),
+    )
+
+-- ---- how many events a scan has
+
+-- how many bits are set
+unfoldable pub number : List Bool → ℕ
+number [] = 0
+number (b ∷ bs) = cond b 1 0 + number bs
+
+one : (b : Bool) → cond b 1 0 ≤ 1
+one true = omega arith
+one false = omega arith
+
+-- an event of a mode, or the one that ends it
+mode-most : (after before : Bool) → cond (after && not before) 1 0 + cond (not after && before) 1 0 ≤ 1
+mode-most true before = omega (arith, one (not before))
+mode-most false before = omega (arith, one before)
+
+-- of the whole alarm at most three: disabled or enabled, suppressed or unsuppressed, count reset
+pub whole-most : (disabled suppressed : Bool) (word previous : ℕ) (rest : List Bool) → number (wholeEvents disabled suppressed word previous ++ rest) ≤ 3 + number rest
+unfolding number
+whole-most disabled suppressed word previous rest =
+    omega (
+      arith,
+      mode-most (disabledAfter word disabled) disabled,
+      mode-most (suppressedAfter word suppressed) suppressed,
+      one (countResets word previous),
+    )
+
+-- a return and an activation exclude each other
+turn-most : (enabled met frees ready alarm : Bool) → cond (enabled && alarm && (not met && frees)) 1 0 + cond (enabled && met && ready && not alarm) 1 0 ≤ 1
+turn-most true true frees ready true = omega (arith, one (ready && false))
+turn-most true true frees ready false = omega (arith, one (ready && true))
+turn-most true false frees ready alarm = omega (arith, one (alarm && frees))
+turn-most false met frees ready alarm = omega arith
+
+-- of a condition at most two: acknowledged, and returned or activated
+pub condition-most : (t : Told) (alarm unacked : Bool) (rest : List Bool)
+    → number (acknowledges t unacked ∷ returns t alarm ∷ activates t alarm ∷ rest) ≤ 2 + number rest
+unfolding number
+condition-most t alarm unacked rest = omega (arith, one (acknowledges t unacked), turn-most (t .enabled) (t .met) (t .frees) (t .ready) alarm)
+
+no-bits : number [] ≡ 0
+unfolding number
+no-bits = refl
+
+module _ (flags duration : ℕ) (input : Bool) (word time : ℕ) (d : DigitalHeld) where
+  pub digital-most : number (digitalEvents flags duration input word time d) ≤ 5
+  digital-most =
+      let t : Told = digitalTold flags duration input word time d in
+      let three : List Bool = acknowledges t (d .cell .unacked) ∷ returns t (d .cell .alarm) ∷ activates t (d .cell .alarm) ∷ [] in
+      omega (arith, whole-most (d .disabled) (d .suppressed) word (d .previous) three, condition-most t (d .cell .alarm) (d .cell .unacked) [], no-bits)
+
+  -- ---- a disabled alarm
+
+  pub no-events-digital : disabledAfter word (d .disabled) ≡ true
+      → (drop 6 (digitalEvents flags duration input word time d) ≡ false ∷ false ∷ false ∷ [])
+      × (digitalAfter flags duration input word time d .cell .alarm ≡ false)
+      × (digitalAfter flags duration input word time d .cell .unacked ≡ false)
+      × (digitalAfter flags duration input word time d .cell .row ≡ false)
+  no-events-digital h = rw h (refl, refl, refl, refl)
+
+module _ (flags duration : ℕ) (g : Limits) (period : ℕ) (x : Float) (word time : ℕ) (a : AnalogHeld) where
+  abbrev cell-bits : Six → List Bool → List Bool
+  cell-bits = cellEvents flags duration g period x word time a
+
+  cell-most : (c : Six) (rest : List Bool) → number (cell-bits c rest) ≤ 2 + number rest
+  cell-most c rest = condition-most (analogTold flags duration g period x word time a c) (a .cell c .alarm) (a .cell c .unacked) rest
+
+  six-most : number (cell-bits HH (cell-bits H (cell-bits L (cell-bits LL (cell-bits ROCPos (cell-bits ROCNeg [])))))) ≤ 12
+  six-most =
+      omega (
+        arith,
+        cell-most HH (cell-bits H (cell-bits L (cell-bits LL (cell-bits ROCPos (cell-bits ROCNeg []))))),
+        cell-most H (cell-bits L (cell-bits LL (cell-bits ROCPos (cell-bits ROCNeg [])))),
+        cell-most L (cell-bits LL (cell-bits ROCPos (cell-bits ROCNeg []))),
+        cell-most LL (cell-bits ROCPos (cell-bits ROCNeg [])),
+        cell-most ROCPos (cell-bits ROCNeg []),
+        cell-most ROCNeg [],
+        no-bits,
+      )
+
+  pub analog-most : number (analogEvents flags duration g period x word time a) ≤ 15
+  analog-most =
+      let w = whole-most (a .disabled) (a .suppressed) word (a .previous) (cell-bits HH (cell-bits H (cell-bits L (cell-bits LL (cell-bits ROCPos (cell-bits ROCNeg [])))))) in
+      omega (arith, w, six-most)
+
+  pub no-events-analog : disabledAfter word (a .disabled) ≡ true → (c : Six) (rest : List Bool)
+      → (cellEvents flags duration g period x word time a c rest ≡ false ∷ false ∷ false ∷ rest)
+      × (analogAfter flags duration g period x word time a .cell c .alarm ≡ false)
+      × (analogAfter flags duration g period x word time a .cell c .unacked ≡ false)
+      × (analogAfter flags duration g period x word time a .cell c .row ≡ false)
+  no-events-analog h c rest = rw h (refl, refl, refl, refl)
+
+  pub no-rows-analog : disabledAfter word (a .disabled) ≡ true
+      → (analogAfter flags duration g period x word time a .held ≡ false)
+      × ((s : Side) → analogAfter flags duration g period x word time a .run s .on ≡ false)
+      × (analogAfter flags duration g period x word time a .sample .rate ≡ ofBits binary32 0)
+  unfolding sampleAfter
+  no-rows-analog h = rw h (refl, λ s. refl, refl)
+
+-- ---- suppression
+
+-- two words that command the same, but for suppression
+pub record SameCommands (previous word word′ : ℕ) : Type 0 where
+  pub enabling : enables word ≡ enables word′
+  pub disabling : disables word ≡ disables word′
+  pub count-reset : countResets word previous ≡ countResets word′ previous
+  pub reset : resets word previous ≡ resets word′ previous
+  pub ack-all : acksAll word previous ≡ acksAll word′ previous
+  pub ack : ackBits word previous ≡ ackBits word′ previous
+  pub fault : faults word ≡ faults word′
+
+-- the bits of suppression
+abbrev pub suppression : ℕ → Bool
+suppression k = eqb k 4 || eqb k 5 || eqb k 11 || eqb k 12
+
+-- words that agree in every other bit are such words
+pub same-commands : (previous word word′ : ℕ) → ((k : ℕ) → suppression k ≡ false → bit word k ≡ bit word′ k) → SameCommands previous word word′
+unfolding ackBits
+same-commands previous word word′ h =
+    record {
+      enabling = rw (h 3 refl, h 10 refl);
+      disabling = rw (h 2 refl, h 9 refl);
+      count-reset = rw (h 6 refl);
+      reset = rw (h 1 refl, h 8 refl);
+      ack-all = rw (h 0 refl, h 7 refl);
+      ack = rw (h 0 refl, h 7 refl, h 13 refl, h 14 refl, h 15 refl, h 16 refl, h 17 refl, h 18 refl, h 19 refl, h 20 refl, h 21 refl, h 22 refl, h 23 refl, h 24 refl);
+      fault = h 25 refl;
+    }
+
+module _ (flags duration : ℕ) (input : Bool) (word word′ time : ℕ) (d : DigitalHeld) (e : SameCommands (d .previous) word word′) where
+  -- suppression changes only whether the alarm is suppressed
+  pub suppress-only-digital : digitalAfter flags duration input word′ time d
+      ≡ record {
+        disabled = digitalAfter flags duration input word time d .disabled;
+        suppressed = suppressedAfter word′ (d .suppressed);
+        faulted = digitalAfter flags duration input word time d .faulted;
+        previous = word′;
+        cell = digitalAfter flags duration input word time d .cell;
+      }
+  suppress-only-digital = rw (e .enabling, e .disabling, e .reset, e .ack-all, e .fault)
+
+  -- and, of the events, only the third and the fourth, suppressed and unsuppressed
+  pub suppress-events-digital : (take 2 (digitalEvents flags duration input word′ time d) ≡ take 2 (digitalEvents flags duration input word time d))
+      × (drop 4 (digitalEvents flags duration input word′ time d) ≡ drop 4 (digitalEvents flags duration input word time d))
+  suppress-events-digital = rw (e .enabling, e .disabling, e .count-reset, e .reset, e .ack-all) (refl, refl)
+
+module _ (flags duration : ℕ) (g : Limits) (period : ℕ) (x : Float) (word word′ time : ℕ) (a : AnalogHeld) (e : SameCommands (a .previous) word word′) where
+  run-same : (s : Side) → analogAfter flags duration g period x word time a .run s ≡ analogAfter flags duration g period x word′ time a .run s
+  run-same High = rw (e .enabling, e .disabling)
+  run-same Low = rw (e .enabling, e .disabling)
+
+  cell-same : (c : Six) → cellAfter flags duration g period x word time a c ≡ cellAfter flags duration g period x word′ time a c
+  cell-same c = rw (e .enabling, e .disabling, e .ack)
+
+  pub suppress-only-analog : analogAfter flags duration g period x word′ time a
+      ≡ record {
+        disabled = analogAfter flags duration g period x word time a .disabled;
+        suppressed = suppressedAfter word′ (a .suppressed);
+        faulted = analogAfter flags duration g period x word time a .faulted;
+        held = analogAfter flags duration g period x word time a .held;
+        previous = word′;
+        sample = analogAfter flags duration g period x word time a .sample;
+        run = analogAfter flags duration g period x word time a .run;
+        cell = analogAfter flags duration g period x word time a .cell;
+      }
+  suppress-only-analog = rw (fun-ext run-same, fun-ext cell-same, e .enabling, e .disabling, e .fault)
+
+  pub suppress-events-analog : (take 2 (analogEvents flags duration g period x word′ time a) ≡ take 2 (analogEvents flags duration g period x word time a))
+      × (drop 4 (analogEvents flags duration g period x word′ time a) ≡ drop 4 (analogEvents flags duration g period x word time a))
+  suppress-events-analog = rw (e .enabling, e .disabling, e .count-reset, e .ack) (refl, refl)
+
+-- ---- events written
+
+pub events-number : (alarm : ℕ) (kind : Kind) (suppressed : Bool) (time k : ℕ) (bits : List Bool)
+    → length (eventsFrom alarm kind suppressed time k bits) ≡ number bits
+unfolding eventsFrom number
+events-number alarm kind suppressed time k [] = refl
+events-number alarm kind suppressed time k (true ∷ bs) = omega (arith, events-number alarm kind suppressed time (suc k) bs)
+events-number alarm kind suppressed time k (false ∷ bs) = omega (arith, events-number alarm kind suppressed time (suc k) bs)

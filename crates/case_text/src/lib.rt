@@ -1,0 +1,5 @@
+// Text of the programs that run worked cases: buffers, words, numbers and output lines.
+pub mod buffer;
+pub mod output;
+pub mod parse;
+pub mod show;

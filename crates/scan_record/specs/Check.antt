@@ -1,0 +1,34 @@
+-- The check of a whole scan record, alarm by alarm in number order.
+use Prim.Native.Nat.{ℕ, zero, suc, _+_, _*_}
+use mathlib.Core.List.{List}
+use mathlib.Core.Bool.{cond}
+use lib.Dec.{ltb}
+use Rattle.settings.specs.declared.alarm.Form.{Form}
+use Rattle.settings.specs.declared.alarm.Form.the-variants.{Digital, Analog}
+use Rattle.settings.specs.declared.reply.Refusal.{Refusal}
+use Rattle.settings.specs.declared.reply.Reply.{Reply}
+use Rattle.settings.specs.declared.reply.Reply.the-variants.{Accepted, Refused as RefusedBy}
+use Rattle.alarm.specs.declared.step.Reading.{Reading}
+use Rattle.scan_record.specs.Entry.{entryAt}
+use Rattle.scan_record.specs.declared.entry.Entry.{Entry}
+use Rattle.scan_record.specs.declared.entry.Entry.the-variants.{Read, Refused}
+
+-- the digital alarms come first
+abbrev pub formAt : ℕ → ℕ → Form
+formAt digital place = cond (ltb place digital) Digital Analog
+
+-- the time, then 5 bytes for each digital and 8 for each analog alarm
+abbrev pub recordSize : ℕ → ℕ → ℕ
+recordSize digital analog = 8 + 5 * digital + 8 * analog
+
+abbrev pub onEntry : Entry → (Reading → ℕ → ℕ → Reply) → (Refusal → Reply) → Reply
+onEntry (Read x word next) f g = f x word next
+onEntry (Refused r) f g = g r
+
+-- the first refusal of the k alarms from a place on, whose parts begin at offset `at`; alarm numbers begin at 1
+unfoldable pub checkFrom : List ℕ → ℕ → ℕ → ℕ → ℕ → Reply
+checkFrom bytes digital zero place at = Accepted
+checkFrom bytes digital (suc k) place at =
+    onEntry (entryAt (formAt digital place) bytes at (place + 1))
+    (λ x word next. checkFrom bytes digital k (place + 1) next)
+    (λ r. RefusedBy r)

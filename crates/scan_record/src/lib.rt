@@ -1,0 +1,3 @@
+// A scan record: the time, then for each alarm its reading and its command word.
+pub mod check;
+pub mod entry;
