@@ -15,9 +15,9 @@ use Rattle.settings.specs.declared.alarm.Kind.{Kind}
 use Rattle.history.specs.Condition.{Told, acknowledges, returns, activates}
 use Rattle.level.specs.Rate.{sampleAfter}
 use Rattle.condition.specs.Command.{enables, disables, countResets, resets, acksAll, ackBits, faults}
-use Rattle.condition.specs.Mode.{disabledAfter, suppressedAfter}
+use Rattle.condition.specs.Mode.{disabledAfter, suppressedAfter, wholeEvents}
 use Rattle.alarm.specs.Held.{DigitalHeld, lookDigital, digitalFlags, hideDigital, Six, HH, H, L, LL, ROCPos, ROCNeg, Side, High, Low, AnalogHeld, runOf, cellOf, lookAnalog, analogFlags, hideAnalog}
-use Rattle.alarm.specs.Digital.{wholeEvents, digitalTold, digitalAfter, digitalEvents}
+use Rattle.alarm.specs.Digital.{digitalTold, digitalAfter, digitalEvents}
 use Rattle.alarm.specs.Analog.{analogTold, cellAfter, analogAfter, cellEvents, analogEvents}
 use Rattle.alarm.specs.Events.{eventsFrom}
 use Rattle.alarm.specs.declared.state.State.{State}

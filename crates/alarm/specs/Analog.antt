@@ -12,10 +12,9 @@ use Rattle.level.specs.Level.{metBits, freesBits}
 use Rattle.level.specs.Rate.{sampleAfter}
 use Rattle.level.specs.declared.rate.Sample.{Sample}
 use Rattle.condition.specs.Command.{ackBits, faults}
-use Rattle.condition.specs.Mode.{disabledAfter, suppressedAfter}
+use Rattle.condition.specs.Mode.{disabledAfter, suppressedAfter, wholeEvents}
 use Rattle.condition.specs.Outcome.{toldOf}
 use Rattle.alarm.specs.Held.{Cell, Six, HH, H, L, LL, ROCPos, ROCNeg, Side, High, Low, place, AnalogHeld, lookAnalog, hideAnalog}
-use Rattle.alarm.specs.Digital.{wholeEvents}
 use Rattle.alarm.specs.declared.state.State.{State}
 use Rattle.alarm.specs.declared.state.Stepped.{Stepped}
 

@@ -5,8 +5,8 @@ use mathlib.Core.List.{List, [], _∷_, _++_}
 use lib.Dec.{leb}
 use Rattle.wire.specs.Bits.{bit, wordOf}
 use Rattle.history.specs.Condition.{Told, alarmAfter, unackedAfter, acknowledges, returns, activates}
-use Rattle.condition.specs.Command.{resets, acksAll, countResets, faults}
-use Rattle.condition.specs.Mode.{disabledAfter, suppressedAfter}
+use Rattle.condition.specs.Command.{resets, acksAll, faults}
+use Rattle.condition.specs.Mode.{disabledAfter, suppressedAfter, wholeEvents}
 use Rattle.condition.specs.Outcome.{toldOf}
 use Rattle.alarm.specs.Held.{DigitalHeld, lookDigital, hideDigital}
 use Rattle.alarm.specs.declared.state.State.{State}
@@ -21,13 +21,6 @@ digitalRequired flags = bit flags 1
 
 abbrev pub latched : ℕ → Bool
 latched flags = bit flags 2
-
--- events of the whole alarm: 1 disabled, 2 enabled, 3 suppressed, 4 unsuppressed only on a change, 5 on every count reset; then a free bit
-abbrev pub wholeEvents : Bool → Bool → ℕ → ℕ → List Bool
-wholeEvents disabled suppressed word previous =
-    (disabledAfter word disabled && not disabled) ∷ (not (disabledAfter word disabled) && disabled)
-    ∷ (suppressedAfter word suppressed && not suppressed) ∷ (not (suppressedAfter word suppressed) && suppressed)
-    ∷ countResets word previous ∷ false ∷ []
 
 module _ (flags duration : ℕ) (input : Bool) (word time : ℕ) (d : DigitalHeld) where
   -- met when In equals Condition

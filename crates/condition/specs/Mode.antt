@@ -12,10 +12,14 @@ disabledAfter word disabled = not (enables word) && (disables word || disabled)
 abbrev pub suppressedAfter : ℕ → Bool → Bool
 suppressedAfter word suppressed = not (unsuppresses word) && (suppresses word || suppressed)
 
--- disabled, suppressed and InFaulted after the scan, then the events 1 to 5
-unfoldable pub modeBits : Bool → Bool → ℕ → ℕ → List Bool
-modeBits disabled suppressed word previous =
-    disabledAfter word disabled ∷ suppressedAfter word suppressed ∷ faults word
-    ∷ (disabledAfter word disabled && not disabled) ∷ (not (disabledAfter word disabled) && disabled)
+-- events of the whole alarm: 1 disabled, 2 enabled, 3 suppressed, 4 unsuppressed only on a change, 5 on every count reset; then a free bit
+abbrev pub wholeEvents : Bool → Bool → ℕ → ℕ → List Bool
+wholeEvents disabled suppressed word previous =
+    (disabledAfter word disabled && not disabled) ∷ (not (disabledAfter word disabled) && disabled)
     ∷ (suppressedAfter word suppressed && not suppressed) ∷ (not (suppressedAfter word suppressed) && suppressed)
     ∷ countResets word previous ∷ false ∷ []
+
+-- disabled, suppressed and InFaulted after the scan, then the events of the whole alarm
+unfoldable pub modeBits : Bool → Bool → ℕ → ℕ → List Bool
+modeBits disabled suppressed word previous =
+    disabledAfter word disabled ∷ suppressedAfter word suppressed ∷ faults word ∷ wholeEvents disabled suppressed word previous
