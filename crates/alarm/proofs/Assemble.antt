@@ -6,7 +6,7 @@ use Prim.Native.Nat.{ℕ, _+_, _*_, _/_, _%_}
 use native.Mathlib.Omega.{arith}
 use lib.ListN.{getD, take, drop}
 use lib.Ieee.{Float}
-use Rattle.settings.specs.declared.alarm.Limits.{Limits}
+use Rattle.settings.specs.declared.types.Limits.{Limits}
 use Rattle.level.specs.Level.{metBits, freesBits}
 use Rattle.condition.specs.Command.{ackBits}
 use Rattle.wire.specs.Bits.{bit, wordOf}

@@ -10,8 +10,8 @@ use lib.Dec.{eqb}
 use lib.ListN.{length, take, drop}
 use Rattle.wire.specs.Bits.{bit}
 use Rattle.wire.proofs.WordLaws.{bit-word}
-use Rattle.settings.specs.declared.alarm.Limits.{Limits}
-use Rattle.settings.specs.declared.alarm.Kind.{Kind}
+use Rattle.settings.specs.declared.types.Limits.{Limits}
+use Rattle.settings.specs.declared.types.Kind.{Kind}
 use Rattle.history.specs.Condition.{Told, acknowledges, returns, activates}
 use Rattle.level.specs.Rate.{sampleAfter}
 use Rattle.condition.specs.Command.{enables, disables, countResets, resets, acksAll, ackBits, faults}

@@ -7,7 +7,7 @@ use lib.ListN.{getD}
 use lib.Ieee.{Float}
 use Rattle.wire.specs.Bits.{bit, wordOf}
 use Rattle.history.specs.Condition.{Told, alarmAfter, unackedAfter, acknowledges, returns, activates}
-use Rattle.settings.specs.declared.alarm.Limits.{Limits}
+use Rattle.settings.specs.declared.types.Limits.{Limits}
 use Rattle.level.specs.Level.{metBits, freesBits}
 use Rattle.level.specs.Rate.{sampleAfter}
 use Rattle.level.specs.declared.rate.Sample.{Sample}

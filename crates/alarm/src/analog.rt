@@ -16,7 +16,7 @@ use level::level::frees_word;
 use level::level::met_word;
 use level::rate::Sample;
 use level::rate::sample_after;
-use settings::alarm::Limits;
+use settings::types::Limits;
 use wire::bits::word3;
 use wire::bits::word6;
 

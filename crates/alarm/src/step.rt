@@ -5,8 +5,8 @@ use crate::analog::analog_step;
 use crate::digital::digital_step;
 use crate::state::State;
 use crate::state::Stepped;
-use settings::alarm::Alarm;
-use settings::alarm::Kind;
+use settings::types::Alarm;
+use settings::types::Kind;
 
 // A decoded reading.
 pub enum Reading {

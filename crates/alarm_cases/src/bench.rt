@@ -6,9 +6,9 @@ use crate::parse::put_image;
 use alarm::state::State;
 use alarm::step::Reading;
 use alarm::step::step;
-use settings::alarm::Alarm;
-use settings::alarm::Kind;
 use settings::read::read;
+use settings::types::Alarm;
+use settings::types::Kind;
 
 pub struct Bench {
     pub alarm: Alarm,

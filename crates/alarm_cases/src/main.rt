@@ -20,7 +20,7 @@ use case_text::output::print;
 use case_text::parse::begins_with;
 use case_text::parse::find;
 use libc::STDIN_FILENO;
-use settings::alarm::blank_alarm;
+use settings::types::blank_alarm;
 
 // Begins a sequence with the alarm of a settings image.
 fn run_settings(text: &[u8]) -> Bench {

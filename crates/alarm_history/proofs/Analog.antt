@@ -12,7 +12,7 @@ use Rattle.history.specs.Words.{Demand3}
 use Rattle.history.proofs.Condition.{kept-count}
 use Rattle.history.proofs.Demand.{demand}
 use Rattle.condition.specs.Mark.{Marks, marksAfter}
-use Rattle.settings.specs.declared.alarm.Limits.{Limits}
+use Rattle.settings.specs.declared.types.Limits.{Limits}
 use Rattle.condition.specs.Command.{ackBits, faults}
 use Rattle.condition.specs.Outcome.{toldOf}
 use Rattle.level.specs.Level.{metBits, freesBits}

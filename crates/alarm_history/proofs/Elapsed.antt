@@ -4,7 +4,7 @@ use mathlib.Core.Path.{_≡_, refl, ap}
 use mathlib.Core.List.{List, [], _∷_}
 use mathlib.Core.Bool.{Bool}
 use lib.Ieee.{Float}
-use Rattle.settings.specs.declared.alarm.Limits.{Limits}
+use Rattle.settings.specs.declared.types.Limits.{Limits}
 use Rattle.alarm.specs.Held.{Side}
 use Rattle.alarm_history.specs.Scans.{Scan, previous, countReset, lastTime, latest}
 use Rattle.alarm_history.specs.Digital as Digital

@@ -7,7 +7,7 @@ use lib.Dec.{eqb}
 use lib.Ieee.{Float, binary32, ofBits, ofInt, sub, add, mul, div, neg, lt, le, eq, toBits}
 use Rattle.history.specs.Past.{since, countFrom, rowStart}
 use Rattle.history.specs.Demand.{inAlarm, unacknowledged, count}
-use Rattle.settings.specs.declared.alarm.Limits.{Limits}
+use Rattle.settings.specs.declared.types.Limits.{Limits}
 use Rattle.condition.specs.Command.{ackBits}
 use Rattle.level.specs.Level.{metBits, freesBits}
 use Rattle.level.specs.Rate.{newRate, sampleAfter}

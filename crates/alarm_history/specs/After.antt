@@ -7,7 +7,7 @@ use Rattle.history.specs.Past.{holds, rowStart}
 use Rattle.history.specs.Condition.{kept, acknowledges, returns, activates}
 use Rattle.condition.specs.Command.{countResets}
 use Rattle.condition.specs.Mark.{Marks, marksAfter, noMarks}
-use Rattle.settings.specs.declared.alarm.Limits.{Limits}
+use Rattle.settings.specs.declared.types.Limits.{Limits}
 use Rattle.level.specs.Level.{zero}
 use Rattle.alarm.specs.Held.{Six, DigitalHeld, AnalogHeld}
 use Rattle.alarm.specs.Digital.{digitalRequired, digitalStart, digitalTold, digitalAfter}

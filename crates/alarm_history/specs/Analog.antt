@@ -7,7 +7,7 @@ use lib.ListN.{getD}
 use lib.Ieee.{Float}
 use Rattle.history.specs.Past.{Fact, holds, rowStart}
 use Rattle.history.specs.Demand.{Facts}
-use Rattle.settings.specs.declared.alarm.Limits.{Limits}
+use Rattle.settings.specs.declared.types.Limits.{Limits}
 use Rattle.condition.specs.Command.{ackBits}
 use Rattle.level.specs.Level.{zero, metBits, freesBits}
 use Rattle.level.specs.Rate.{sampleAfter}

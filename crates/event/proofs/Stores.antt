@@ -10,7 +10,7 @@ use lib.Seq.{sets}
 use mathlib.Core.Bool.{Bool, true, false, cond}
 use borrow.Author.Tests.{eq-eqb, ne-eqb}
 use lib.ListN.{length-append}
-use Rattle.settings.specs.declared.alarm.Kind.{Kind}
+use Rattle.settings.specs.declared.types.Kind.{Kind}
 use Rattle.wire.specs.Number.{bytes}
 use Rattle.wire.proofs.Laws.{length-bytes, sets-append}
 use Rattle.alarm.specs.Events.{Event, eventAt}

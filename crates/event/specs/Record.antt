@@ -4,7 +4,7 @@ use mathlib.Core.Bool.{Bool, cond}
 use mathlib.Core.List.{List, [], _∷_, _++_}
 use lib.Dec.{eqb}
 use Rattle.wire.specs.Number.{bytes}
-use Rattle.settings.specs.declared.alarm.Kind.{Kind}
+use Rattle.settings.specs.declared.types.Kind.{Kind}
 use Rattle.alarm.specs.Events.{Event, eventAt}
 
 -- alarm, condition, kind, suppressed, one byte each; acting severity in two, two zero bytes, the scan's time

@@ -5,8 +5,8 @@ ghost use mathlib.Core.List.{[], _∷_};
 ghost use lib.ListN.{getD};
 ghost use Rattle.alarm.specs.Events.{kindAt, conditionAt, actingAt};
 use condition::severity::acting_severity;
-use settings::alarm::Kind;
-use settings::alarm::Severities;
+use settings::types::Kind;
+use settings::types::Severities;
 
 // The event kind.
 pub fn kind_at(k: u32) -> u8

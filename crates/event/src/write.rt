@@ -11,7 +11,7 @@ ghost use Rattle.event.specs.Record.{eventBytes, logBytes, eventsOf};
 use crate::slot::condition_at;
 use crate::slot::kind_at;
 use crate::slot::severity_at;
-use settings::alarm::Kind;
+use settings::types::Kind;
 use wire::number::put_u8;
 use wire::number::put_u16;
 use wire::number::put_u64;

@@ -14,14 +14,14 @@ use Rattle.wire.proofs.Laws.{length-words, sets-append}
 use Rattle.image.specs.Write.{digitalBytes, analogBytes, severityWords, limitWords, kindBytes, recordBytes, recordsBytes, sectionBytes, imageOf, sizeOfImage, hasRoom}
 use Rattle.settings.specs.Record.{sizeOf}
 use Rattle.settings.specs.Alarm.{blank}
-use Rattle.settings.specs.declared.alarm.Alarm.{Alarm}
-use Rattle.settings.specs.declared.alarm.Settings.{Settings}
-use Rattle.settings.specs.declared.alarm.Kind.{Kind}
-use Rattle.settings.specs.declared.alarm.Kind.the-variants.{Digital, Analog}
-use Rattle.settings.specs.declared.alarm.Form.{Form}
-use Rattle.settings.specs.declared.alarm.Form.the-variants.{Digital as DigitalForm, Analog as AnalogForm}
-use Rattle.settings.specs.declared.alarm.Limits.{Limits}
-use Rattle.settings.specs.declared.alarm.Severities.{Severities}
+use Rattle.settings.specs.declared.types.Alarm.{Alarm}
+use Rattle.settings.specs.declared.types.Settings.{Settings}
+use Rattle.settings.specs.declared.types.Kind.{Kind}
+use Rattle.settings.specs.declared.types.Kind.the-variants.{Digital, Analog}
+use Rattle.settings.specs.declared.types.Form.{Form}
+use Rattle.settings.specs.declared.types.Form.the-variants.{Digital as DigitalForm, Analog as AnalogForm}
+use Rattle.settings.specs.declared.types.Limits.{Limits}
+use Rattle.settings.specs.declared.types.Severities.{Severities}
 
 pub length-digital : (flags severity duration : ℕ) → length (digitalBytes flags severity duration) ≡ 9
 unfolding digitalBytes

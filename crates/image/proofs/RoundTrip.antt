@@ -23,9 +23,9 @@ use Rattle.image.specs.Write.{recordsBytes, sectionBytes, imageOf, hasRo
 use Rattle.settings.specs.Reply.{refusal}
 use Rattle.settings.specs.Sound.{SoundAlarm}
 use Rattle.image.specs.Accepted.{AcceptedFrom}
-use Rattle.settings.specs.declared.alarm.Alarm.{Alarm}
-use Rattle.settings.specs.declared.alarm.Form.{Form}
-use Rattle.settings.specs.declared.alarm.Form.the-variants.{Digital as DigitalForm, Analog as AnalogForm}
+use Rattle.settings.specs.declared.types.Alarm.{Alarm}
+use Rattle.settings.specs.declared.types.Form.{Form}
+use Rattle.settings.specs.declared.types.Form.the-variants.{Digital as DigitalForm, Analog as AnalogForm}
 use Rattle.settings.specs.declared.reply.Refusal.{Refusal}
 use Rattle.settings.specs.declared.count.Count.{Count}
 use Rattle.settings.specs.declared.count.Count.the-variants.{Alarms, Refused as NoCount}
@@ -34,7 +34,7 @@ use Rattle.settings.specs.declared.record.Record.the-variants.{Alarm as Recorde
 use Rattle.settings.specs.declared.section.Filled.{Filled}
 use Rattle.settings.specs.declared.section.Section.{Section}
 use Rattle.settings.specs.declared.section.Section.the-variants.{Read, Refused}
-use Rattle.settings.specs.declared.alarm.Settings.{Settings}
+use Rattle.settings.specs.declared.types.Settings.{Settings}
 use Rattle.settings.specs.declared.reply.Reply.the-variants.{Accepted}
 use Rattle.settings.specs.declared.read.Loaded.{Loaded}
 use Rattle.image.specs.declared.write.Written.the-variants.{Length, Refused as TooShort}

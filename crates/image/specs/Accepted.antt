@@ -5,8 +5,8 @@ use mathlib.Core.List.{List}
 use lib.ListN.{length, getD}
 use Rattle.settings.specs.Alarm.{blank}
 use Rattle.settings.specs.Sound.{SoundAlarm}
-use Rattle.settings.specs.declared.alarm.Settings.{Settings}
-use Rattle.settings.specs.declared.alarm.Form.the-variants.{Digital as DigitalForm, Analog as AnalogForm}
+use Rattle.settings.specs.declared.types.Settings.{Settings}
+use Rattle.settings.specs.declared.types.Form.the-variants.{Digital as DigitalForm, Analog as AnalogForm}
 use Rattle.image.specs.Write.{imageOf, sizeOfImage}
 
 -- at most 12 alarms of each kind, each sound, from an image of 2 + 9d + 61a bytes, which is their image

@@ -8,14 +8,14 @@ use lib.Seq.{slice}
 use lib.Ieee.{binary32, toBits}
 use Rattle.wire.specs.Number.{words}
 use Rattle.settings.specs.Reply.{refusal}
-use Rattle.settings.specs.declared.alarm.Limits.{Limits}
-use Rattle.settings.specs.declared.alarm.Severities.{Severities}
-use Rattle.settings.specs.declared.alarm.Alarm.{Alarm}
-use Rattle.settings.specs.declared.alarm.Kind.{Kind}
-use Rattle.settings.specs.declared.alarm.Kind.the-variants.{Digital, Analog}
-use Rattle.settings.specs.declared.alarm.Form.{Form}
-use Rattle.settings.specs.declared.alarm.Form.the-variants.{Digital as DigitalForm, Analog as AnalogForm}
-use Rattle.settings.specs.declared.alarm.Settings.{Settings}
+use Rattle.settings.specs.declared.types.Limits.{Limits}
+use Rattle.settings.specs.declared.types.Severities.{Severities}
+use Rattle.settings.specs.declared.types.Alarm.{Alarm}
+use Rattle.settings.specs.declared.types.Kind.{Kind}
+use Rattle.settings.specs.declared.types.Kind.the-variants.{Digital, Analog}
+use Rattle.settings.specs.declared.types.Form.{Form}
+use Rattle.settings.specs.declared.types.Form.the-variants.{Digital as DigitalForm, Analog as AnalogForm}
+use Rattle.settings.specs.declared.types.Settings.{Settings}
 use Rattle.image.specs.declared.write.Written.{Written}
 use Rattle.image.specs.declared.write.Written.the-variants.{Length, Refused}
 

@@ -6,7 +6,7 @@ use Prim.Native.Nat.{ℕ}
 use lib.Ieee.{Float, binary32, ofBits, ofInt, lt, le, neg, add, sub, mul, div}
 use lib.Dec.{leb·zero}
 use lib.ListN.{getD}
-use Rattle.settings.specs.declared.alarm.Limits.{Limits}
+use Rattle.settings.specs.declared.types.Limits.{Limits}
 use Rattle.level.specs.Level.{zero, metBits, freesBits}
 use Rattle.level.specs.Rate.{newRate, sampleAfter}
 use Rattle.level.specs.declared.rate.Sample.{Sample}

@@ -5,7 +5,7 @@ use mathlib.Core.List.{List, [], _∷_}
 use lib.Dec.{ltb}
 use lib.Ieee.{Float, binary32, ofBits, lt, le, add, sub, neg}
 use Rattle.settings.specs.Rules.{onHH, onH, onL, onLL}
-use Rattle.settings.specs.declared.alarm.Limits.{Limits}
+use Rattle.settings.specs.declared.types.Limits.{Limits}
 
 abbrev pub zero : Float
 zero = ofBits binary32 0

@@ -3,7 +3,7 @@ ghost use mathlib.Core.Path.{_≡_};
 ghost use Prim.Native.Nat.{_<_};
 ghost use Rattle.wire.specs.Bits.{wordOf};
 ghost use Rattle.level.specs.Level.{metBits, freesBits};
-use settings::alarm::Limits;
+use settings::types::Limits;
 use wire::bits::word6;
 
 // The conditions that a reading and a rate meet, as bits in the order HH, H, L, LL, ROCPos, ROCNeg.

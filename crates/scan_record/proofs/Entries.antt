@@ -1,24 +1,26 @@
 -- Laws of a record's parts: where they end, and the walk through them. Assumes nothing.
-use mathlib.Core.Path.{_≡_, refl}
+use mathlib.Core.Path.{_≡_, refl, sym, _∙_}
 use mathlib.Core.List.{List}
-use mathlib.Core.Bool.{Bool, true, false, cond}
-use Prim.Native.Nat.{ℕ, suc, _+_, _-_, _*_, _<_, min}
+use mathlib.Core.Bool.{Bool, true, false, _&&_, cond}
+use Prim.Native.Nat.{ℕ, suc, _+_, _-_, _*_, _≤_, _<_, min}
 use native.Mathlib.Nat.{sub-self}
 use native.Mathlib.Omega.{arith}
-use borrow.Author.Tests.{ltb-true, ltb-false}
+use borrow.Author.Tests.{ltb-true, ltb-false, leb-true, eqb-true}
 use lib.Dec.{ltb, leb, eqb}
 use lib.ListN.{getD}
 use Rattle.wire.specs.Number.{number}
+use Rattle.wire.proofs.Laws.{and-true}
 use Rattle.wire.specs.Real.{realAt, bounded}
 use Rattle.settings.specs.Reply.{refusal}
-use Rattle.settings.specs.declared.alarm.Form.{Form}
-use Rattle.settings.specs.declared.alarm.Form.the-variants.{Digital, Analog}
+use Rattle.settings.specs.declared.types.Form.{Form}
+use Rattle.settings.specs.declared.types.Form.the-variants.{Digital, Analog}
 use Rattle.settings.specs.declared.reply.Refusal.{Refusal}
 use Rattle.settings.specs.declared.reply.Reply.the-variants.{Accepted, Refused as RefusedBy}
 use Rattle.alarm.specs.declared.step.Reading.{Reading}
 use Rattle.alarm.specs.declared.step.Reading.the-variants.{Digital as Bit, Level}
 use Rattle.scan_record.specs.Entry.{digitalWord, analogWord, digitalEntry, analogEntry, entrySize, entryAt}
-use Rattle.scan_record.specs.Check.{formAt, checkFrom}
+use Rattle.scan_record.specs.Check.{formAt, recordSize, checkFrom, whole}
+use Rattle.scan_record.specs.Part.{offsetOf}
 use Rattle.scan_record.specs.declared.entry.Entry.the-variants.{Read, Refused}
 
 -- a choice of reading or refusals that ended in a reading
@@ -34,10 +36,6 @@ entry-past Digital bytes at alarm {x} {word} {next} e =
     picked (leb (getD bytes at 0) 1) (digitalWord (number bytes (at + 1) 4)) (Bit (eqb (getD bytes at 0) 1)) x (number bytes (at + 1) 4) word (at + 5) next (refusal 11 alarm) (refusal 9 alarm) e
 entry-past Analog bytes at alarm {x} {word} {next} e =
     picked (bounded (realAt bytes at)) (analogWord (number bytes (at + 4) 4)) (Level (realAt bytes at)) x (number bytes (at + 4) 4) word (at + 8) next (refusal 11 alarm) (refusal 10 alarm) e
-
--- where the part of the alarm at a place begins
-abbrev pub offsetOf : ℕ → ℕ → ℕ
-offsetOf digital place = 8 + 5 * min place digital + 8 * (place - digital)
 
 pub offset-next : (digital place : ℕ) → offsetOf digital place + entrySize (formAt digital place) ≡ offsetOf digital (place + 1)
 offset-next digital place = go (ltb place digital) refl
@@ -63,3 +61,20 @@ module _ (bytes : List ℕ) (digital : ℕ) where
   pub check-end : (place at : ℕ) → checkFrom bytes digital (place - place) place at ≡ Accepted
   unfolding checkFrom
   check-end place at = rw sub-self
+
+-- what a record of the right length says of the numbers of alarms
+pub record Whole (digital analog len : ℕ) : Type 0 where
+  pub digital-most : digital ≤ 12
+  pub analog-most : analog ≤ 12
+  pub size : len ≡ recordSize digital analog
+
+pub whole-says : (digital analog len : ℕ) → whole digital analog len ≡ true → Whole digital analog len
+unfolding whole
+whole-says digital analog len h =
+    let size = and-true (leb digital 12 && leb analog 12) (eqb len (recordSize digital analog)) h in
+    let most = and-true (leb digital 12) (leb analog 12) (size .0) in
+    record {
+      digital-most = leb-true digital 12 (most .0);
+      analog-most = leb-true analog 12 (most .1);
+      size = eqb-true len (recordSize digital analog) (size .1);
+    }

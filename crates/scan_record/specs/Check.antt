@@ -1,15 +1,18 @@
 -- The check of a whole scan record, alarm by alarm in number order.
 use Prim.Native.Nat.{ℕ, zero, suc, _+_, _*_}
 use mathlib.Core.List.{List}
-use mathlib.Core.Bool.{cond}
-use lib.Dec.{ltb}
-use Rattle.settings.specs.declared.alarm.Form.{Form}
-use Rattle.settings.specs.declared.alarm.Form.the-variants.{Digital, Analog}
+use mathlib.Core.Bool.{Bool, _&&_, cond}
+use lib.Dec.{leb, ltb, eqb}
+use lib.ListN.{length}
+use Rattle.settings.specs.declared.types.Form.{Form}
+use Rattle.settings.specs.declared.types.Form.the-variants.{Digital, Analog}
+use Rattle.settings.specs.Reply.{refusal}
 use Rattle.settings.specs.declared.reply.Refusal.{Refusal}
 use Rattle.settings.specs.declared.reply.Reply.{Reply}
 use Rattle.settings.specs.declared.reply.Reply.the-variants.{Accepted, Refused as RefusedBy}
 use Rattle.alarm.specs.declared.step.Reading.{Reading}
 use Rattle.scan_record.specs.Entry.{entryAt}
+use Rattle.scan_record.specs.Part.{timeOf}
 use Rattle.scan_record.specs.declared.entry.Entry.{Entry}
 use Rattle.scan_record.specs.declared.entry.Entry.the-variants.{Read, Refused}
 
@@ -32,3 +35,14 @@ checkFrom bytes digital (suc k) place at =
     onEntry (entryAt (formAt digital place) bytes at (place + 1))
     (λ x word next. checkFrom bytes digital k (place + 1) next)
     (λ r. RefusedBy r)
+
+-- the record has the length that the bank's alarms give it. (Counts over 12 stand in no bank that a call handed back; no record is theirs)
+unfoldable pub whole : ℕ → ℕ → ℕ → Bool
+whole digital analog len = leb digital 12 && leb analog 12 && eqb len (recordSize digital analog)
+
+-- a record, given the number of alarms and the time of the last accepted scan: 7, then 8, then each alarm
+unfoldable pub checkRecord : ℕ → ℕ → ℕ → List ℕ → Reply
+checkRecord digital analog last rec =
+    cond (whole digital analog (length rec))
+    (cond (ltb (timeOf rec) last) (RefusedBy (refusal 8 0)) (checkFrom rec digital (digital + analog) 0 8))
+    (RefusedBy (refusal 7 0))

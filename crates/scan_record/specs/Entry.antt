@@ -8,8 +8,8 @@ use Rattle.wire.specs.Number.{number}
 use Rattle.wire.specs.Real.{realAt, bounded}
 use Rattle.wire.specs.Bits.{bit}
 use Rattle.settings.specs.Reply.{refusal}
-use Rattle.settings.specs.declared.alarm.Form.{Form}
-use Rattle.settings.specs.declared.alarm.Form.the-variants.{Digital, Analog}
+use Rattle.settings.specs.declared.types.Form.{Form}
+use Rattle.settings.specs.declared.types.Form.the-variants.{Digital, Analog}
 use Rattle.alarm.specs.declared.step.Reading.the-variants.{Digital as Bit, Level}
 use Rattle.scan_record.specs.declared.entry.Entry.{Entry}
 use Rattle.scan_record.specs.declared.entry.Entry.the-variants.{Read, Refused}

@@ -1,2 +1,3 @@
 pub mod Entry
+pub mod Part
 pub mod Check

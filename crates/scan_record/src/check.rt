@@ -2,11 +2,13 @@
 ghost use mathlib.Core.Path.{_≡_};
 ghost use Prim.Native.Nat.{_+_, _≤_};
 ghost use lib.ListN.{length};
-ghost use Rattle.scan_record.specs.Check.{formAt, recordSize, checkFrom};
+ghost use Rattle.scan_record.specs.Check.{formAt, recordSize, checkFrom, whole, checkRecord};
 use crate::entry::Entry;
 use crate::entry::entry_at;
-use settings::alarm::Form;
+use settings::reply::Refusal;
 use settings::reply::Reply;
+use settings::types::Form;
+use wire::number::get_u64;
 
 // The form of the alarm at a place.
 pub fn form_at(digital: usize, place: usize) -> Form
@@ -20,7 +22,7 @@ pub fn form_at(digital: usize, place: usize) -> Form
 }
 
 // Checks each alarm in number order and answers the first refusal, of a record that has the right length.
-pub fn check_alarms(bytes: &[u8], digital: usize, analog: usize) -> Reply
+fn check_alarms(bytes: &[u8], digital: usize, analog: usize) -> Reply
     requires { ⌜ (digital ≤ 12) × (analog ≤ 12) ⌝ }
     requires { ⌜ length (now bytes) ≡ recordSize digital analog ⌝ }
     ensures { λ r. ⌜ r ≡ checkFrom (now (bytes .entry)) digital (digital + analog) 0 8 ⌝ }
@@ -39,4 +41,36 @@ pub fn check_alarms(bytes: &[u8], digital: usize, analog: usize) -> Reply
             }
         }
     }
+}
+
+// Whether so many alarms are a bank, and a record of `len` bytes is one of theirs.
+fn is_whole(digital: usize, analog: usize, len: usize) -> bool
+    ensures { λ r. ⌜ r ≡ whole digital analog len ⌝ }
+{
+    if 12 < digital {
+        return false;
+    }
+    if 12 < analog {
+        return false;
+    }
+    len == 8 + 5 * digital + 8 * analog
+}
+
+// Checks a record against the number of alarms and the time of the last accepted scan.
+pub fn check_record(bytes: &[u8], digital: usize, analog: usize, last: u64) -> Reply
+    ensures { λ r. ⌜ r ≡ checkRecord digital analog last (now (bytes .entry)) ⌝ }
+{
+    if !is_whole(digital, analog, bytes.len()) {
+        return Reply::Refused(Refusal {
+            number: 7,
+            place: 0,
+        });
+    }
+    if get_u64(bytes, 0) < last {
+        return Reply::Refused(Refusal {
+            number: 8,
+            place: 0,
+        });
+    }
+    check_alarms(bytes, digital, analog)
 }

@@ -10,7 +10,7 @@ use Rattle.settings.specs.Count.{countAt}
 use Rattle.settings.specs.Record.{recordAt, digitalRecord, digitalAlarm}
 use Rattle.settings.specs.Section.{sectionAt, recordsFrom}
 use Rattle.settings.specs.Read.{readOf, restOf}
-use Rattle.settings.specs.declared.alarm.Kind.the-variants.{Digital}
+use Rattle.settings.specs.declared.types.Kind.the-variants.{Digital}
 use Rattle.settings.specs.declared.reply.Reply.the-variants.{Accepted, Refused}
 
 -- one digital alarm: Condition, AckRequired and Latched set, Severity 700, MinDuration 100

@@ -12,8 +12,8 @@ use Rattle.settings.specs.Reply.{refusal}
 use Rattle.settings.specs.Count.{countAt}
 use Rattle.settings.specs.Record.{recordAt}
 use Rattle.settings.specs.Section.{recordsFrom, sectionAt, onRecord, onCount}
-use Rattle.settings.specs.declared.alarm.Alarm.{Alarm}
-use Rattle.settings.specs.declared.alarm.Form.{Form}
+use Rattle.settings.specs.declared.types.Alarm.{Alarm}
+use Rattle.settings.specs.declared.types.Form.{Form}
 use Rattle.settings.specs.declared.reply.Refusal.{Refusal}
 use Rattle.settings.specs.declared.count.Count.{Count}
 use Rattle.settings.specs.declared.count.Count.the-variants.{Alarms, Refused as NoCount}

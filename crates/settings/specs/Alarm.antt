@@ -1,9 +1,9 @@
 -- Settings without alarms.
 use mathlib.Core.List.{List}
 use lib.ListN.{replicate}
-use Rattle.settings.specs.declared.alarm.Alarm.{Alarm}
-use Rattle.settings.specs.declared.alarm.Kind.the-variants.{Digital}
-use Rattle.settings.specs.declared.alarm.Settings.{Settings}
+use Rattle.settings.specs.declared.types.Alarm.{Alarm}
+use Rattle.settings.specs.declared.types.Kind.the-variants.{Digital}
+use Rattle.settings.specs.declared.types.Settings.{Settings}
 
 -- what stands in a place that no alarm has
 abbrev pub blank : Alarm

@@ -7,8 +7,8 @@ use lib.ListN.{length}
 use Rattle.settings.specs.Alarm.{blanks, empty}
 use Rattle.settings.specs.Reply.{refusal}
 use Rattle.settings.specs.Section.{sectionAt}
-use Rattle.settings.specs.declared.alarm.Alarm.{Alarm}
-use Rattle.settings.specs.declared.alarm.Form.the-variants.{Digital, Analog}
+use Rattle.settings.specs.declared.types.Alarm.{Alarm}
+use Rattle.settings.specs.declared.types.Form.the-variants.{Digital, Analog}
 use Rattle.settings.specs.declared.reply.Refusal.{Refusal}
 use Rattle.settings.specs.declared.reply.Reply.the-variants.{Accepted, Refused as RefusedBy}
 use Rattle.settings.specs.declared.section.Section.{Section}

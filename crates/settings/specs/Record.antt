@@ -8,12 +8,12 @@ use Rattle.wire.specs.Number.{number}
 use Rattle.wire.specs.Real.{realAt}
 use Rattle.settings.specs.Reply.{refusal}
 use Rattle.settings.specs.Rules.{durationInRange, inRange, apart}
-use Rattle.settings.specs.declared.alarm.Limits.{Limits}
-use Rattle.settings.specs.declared.alarm.Severities.{Severities}
-use Rattle.settings.specs.declared.alarm.Alarm.{Alarm}
-use Rattle.settings.specs.declared.alarm.Kind.the-variants.{Digital, Analog}
-use Rattle.settings.specs.declared.alarm.Form.{Form}
-use Rattle.settings.specs.declared.alarm.Form.the-variants.{Digital as DigitalForm, Analog as AnalogForm}
+use Rattle.settings.specs.declared.types.Limits.{Limits}
+use Rattle.settings.specs.declared.types.Severities.{Severities}
+use Rattle.settings.specs.declared.types.Alarm.{Alarm}
+use Rattle.settings.specs.declared.types.Kind.the-variants.{Digital, Analog}
+use Rattle.settings.specs.declared.types.Form.{Form}
+use Rattle.settings.specs.declared.types.Form.the-variants.{Digital as DigitalForm, Analog as AnalogForm}
 use Rattle.settings.specs.declared.record.Record.{Record}
 use Rattle.settings.specs.declared.record.Record.the-variants.{Alarm as Read, Refused}
 

@@ -5,7 +5,7 @@ use lib.Dec.{leb}
 use lib.Ieee.{Float, binary32, ofBits, lt, le, add, sub}
 use Rattle.wire.specs.Real.{bounded}
 use Rattle.wire.specs.Bits.{bit}
-use Rattle.settings.specs.declared.alarm.Limits.{Limits}
+use Rattle.settings.specs.declared.types.Limits.{Limits}
 
 -- the flags of an analog alarm: levels enabled
 abbrev pub onHH : ℕ → Bool

@@ -4,8 +4,8 @@ use mathlib.Core.List.{List}
 use lib.ListN.{set}
 use Rattle.settings.specs.Count.{countAt}
 use Rattle.settings.specs.Record.{recordAt}
-use Rattle.settings.specs.declared.alarm.Alarm.{Alarm}
-use Rattle.settings.specs.declared.alarm.Form.{Form}
+use Rattle.settings.specs.declared.types.Alarm.{Alarm}
+use Rattle.settings.specs.declared.types.Form.{Form}
 use Rattle.settings.specs.declared.reply.Refusal.{Refusal}
 use Rattle.settings.specs.declared.count.Count.{Count}
 use Rattle.settings.specs.declared.count.Count.the-variants.{Alarms, Refused as NoCount}

@@ -5,12 +5,12 @@ use mathlib.Core.Bool.{true, _||_}
 use lib.Ieee.{binary32, lt, add, sub}
 use Rattle.wire.specs.Real.{bounded}
 use Rattle.settings.specs.Rules.{onHH, onH, onL, onLL, nonNegative, lowOf, highOf}
-use Rattle.settings.specs.declared.alarm.Alarm.{Alarm}
-use Rattle.settings.specs.declared.alarm.Limits.{Limits}
-use Rattle.settings.specs.declared.alarm.Kind.{Kind}
-use Rattle.settings.specs.declared.alarm.Kind.the-variants.{Digital, Analog}
-use Rattle.settings.specs.declared.alarm.Form.{Form}
-use Rattle.settings.specs.declared.alarm.Form.the-variants.{Digital as DigitalForm, Analog as AnalogForm}
+use Rattle.settings.specs.declared.types.Alarm.{Alarm}
+use Rattle.settings.specs.declared.types.Limits.{Limits}
+use Rattle.settings.specs.declared.types.Kind.{Kind}
+use Rattle.settings.specs.declared.types.Kind.the-variants.{Digital, Analog}
+use Rattle.settings.specs.declared.types.Form.{Form}
+use Rattle.settings.specs.declared.types.Form.the-variants.{Digital as DigitalForm, Analog as AnalogForm}
 
 pub record SoundDigital (flags duration : ℕ) : Type 0 where
   pub known : flags < 8

@@ -1,8 +1,8 @@
 // The settings of a bank of alarms: what document 01's settings image holds, read from it and written back to it.
-pub mod alarm;
 pub mod count;
 pub mod read;
 pub mod record;
 pub mod reply;
 pub mod rules;
 pub mod section;
+pub mod types;

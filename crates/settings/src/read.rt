@@ -2,16 +2,16 @@
 ghost use mathlib.Core.Path.{_≡_};
 ghost use Prim.Native.Nat.{_≤_};
 ghost use Rattle.settings.specs.Read.{readOf, restOf, refusedBy};
-use crate::alarm::Alarm;
-use crate::alarm::Form;
-use crate::alarm::Settings;
-use crate::alarm::blank_alarms;
-use crate::alarm::no_alarms;
 use crate::reply::Refusal;
 use crate::reply::Reply;
 use crate::section::Filled;
 use crate::section::Section;
 use crate::section::section_at;
+use crate::types::Alarm;
+use crate::types::Form;
+use crate::types::Settings;
+use crate::types::blank_alarms;
+use crate::types::no_alarms;
 
 pub struct Loaded {
     pub settings: Settings,

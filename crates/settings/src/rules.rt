@@ -2,7 +2,7 @@
 ghost use mathlib.Core.Path.{_≡_};
 ghost use mathlib.Core.Bool.{cond};
 ghost use Rattle.settings.specs.Rules.{limitsInRange, inRange, ordered, rising, banded, apart};
-use crate::alarm::Limits;
+use crate::types::Limits;
 use wire::real::is_bounded;
 
 fn limits_in_range(g: Limits) -> bool

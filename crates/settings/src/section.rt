@@ -2,13 +2,13 @@
 ghost use mathlib.Core.Path.{_≡_};
 ghost use Prim.Native.Nat.{_+_, _-_, _≤_};
 ghost use Rattle.settings.specs.Section.{recordsFrom, sectionAt};
-use crate::alarm::Alarm;
-use crate::alarm::Form;
 use crate::count::Count;
 use crate::count::count_at;
 use crate::record::Record;
 use crate::record::record_at;
 use crate::reply::Refusal;
+use crate::types::Alarm;
+use crate::types::Form;
 
 // How many alarms the section has and the offset past it, or the first refusal in it.
 pub enum Section {

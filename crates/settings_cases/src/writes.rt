@@ -9,7 +9,7 @@ use case_text::show::put_number;
 use case_text::show::put_word;
 use image::write::Written;
 use image::write::write;
-use settings::alarm::Settings;
+use settings::types::Settings;
 
 // Whether every byte from `from` on is still 0xA5.
 fn is_kept(out: &[u8; 1024], from: usize) -> bool {

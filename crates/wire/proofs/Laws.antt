@@ -5,7 +5,7 @@ use Prim.Native.Nat.{ℕ, zero, suc, _+_, _*_, _/_, _%_, _^_, _≤_, _<_}
 use native.Mathlib.Nat.{add-zero, add-suc, mul-zero, add-assoc, zero-add, pow-zero, pow-suc, pow-succ', div-one, div-div-eq-div-mul, mul-pos, one-mul, mul-assoc, mul-add, suc-add, lt-of-not-le, not-le-of-lt}
 use native.Mathlib.Numerals.{add-one}
 use native.Mathlib.Omega.{arith}
-use mathlib.Core.Bool.{Bool, true, false}
+use mathlib.Core.Bool.{Bool, true, false, _&&_, false≢true}
 use borrow.Author.Tests.{le-leb, lt-leb, leb-true, leb-false}
 use lib.Dec.{T, leb, ltb, ltb→lt}
 use lib.Arith.{mod-mul}
@@ -181,3 +181,8 @@ value-lt (b ∷ bs) h =
 
 pub number-lt : (s : List ℕ) (at n : ℕ) → T (areBytes s) → at + n ≤ length s → number s at n < 256 ^ n
 number-lt s at n b h = rw length-part at (value-lt (part s at n) (take-bytes n (drop at s) (drop-bytes at s b)))
+
+-- both tests hold
+pub and-true : (a b : Bool) → a && b ≡ true → (a ≡ true) × (b ≡ true)
+and-true true b e = (refl, e)
+and-true false b e = absurd (false≢true e)

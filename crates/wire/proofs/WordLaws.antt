@@ -62,6 +62,11 @@ pub word-low : (b : Bool) (rest : List Bool) {w : ℕ} → w ≡ wordOf (b ∷ r
 unfolding wordOf
 word-low b rest h = rw h (low b (wordOf rest))
 
+-- the bits above the lowest
+pub word-rest : (b : Bool) (rest : List Bool) {w : ℕ} → w ≡ wordOf (b ∷ rest) → w / 2 ≡ wordOf rest
+unfolding wordOf
+word-rest b rest h = rw h (half b (wordOf rest))
+
 -- six threes of bits
 pub word-threes : (x₀ x₁ x₂ x₃ x₄ x₅ : List Bool) → length x₀ ≡ 3 → length x₁ ≡ 3 → length x₂ ≡ 3 → length x₃ ≡ 3 → length x₄ ≡ 3
     → wordOf x₀ + 8 * wordOf x₁ + 64 * wordOf x₂ + 512 * wordOf x₃ + 4096 * wordOf x₄ + 32768 * wordOf x₅ ≡ wordOf (x₀ ++ (x₁ ++ (x₂ ++ (x₃ ++ (x₄ ++ x₅)))))

@@ -3,7 +3,7 @@ use borrow.Author.Needs.{needs}
 use Rattle.image.specs.declared.write.Written.the-variants.{Length}
 use Rattle.image.proofs.Images.{image-length, image-front}
 use Rattle.image.proofs.Images.{room, section-room}
-use Rattle.settings.specs.declared.alarm.Form.the-variants.{Digital, Analog}
+use Rattle.settings.specs.declared.types.Form.the-variants.{Digital, Analog}
 use Rattle.image.specs.Write.{writtenOf, bufferOf}
 use borrow.Author.Tests.{not-true, not-false}
 use denote.Ref.{now}

@@ -7,7 +7,8 @@ use native.Mathlib.Omega.{arith}
 use denote.Ref.{now}
 use Rattle.scan_record.specs.Entry.{entrySize}
 use Rattle.scan_record.specs.Check.{formAt, checkFrom}
-use Rattle.scan_record.proofs.Entries.{entry-past, offsetOf, offset-next, check-next, check-stop, check-end}
+use Rattle.scan_record.specs.Part.{offsetOf}
+use Rattle.scan_record.proofs.Entries.{entry-past, offset-next, check-next, check-stop, check-end}
 use Rattle.scan_record.proofs.check.check_alarms.Statement.{statement}
 use Rattle.scan_record.proofs.check.check_alarms.Tie as tie
 

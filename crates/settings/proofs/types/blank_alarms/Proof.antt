@@ -1,8 +1,8 @@
--- `settings::alarm::blank_alarms` meets its contract: 24 places, each blank. Assumes nothing.
+-- `settings::types::blank_alarms` meets its contract: 24 places, each blank. Assumes nothing.
 use borrow.Author.Needs.{needs}
 use Rattle.settings.specs.Alarm.{blanks}
-use Rattle.settings.proofs.alarm.blank_alarms.Statement.{statement}
-use Rattle.settings.proofs.alarm.blank_alarms.Tie as tie
+use Rattle.settings.proofs.types.blank_alarms.Statement.{statement}
+use Rattle.settings.proofs.types.blank_alarms.Tie as tie
 
 returns : tie.Need-returns
 unfolding blanks

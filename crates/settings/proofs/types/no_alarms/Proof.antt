@@ -1,8 +1,8 @@
--- `settings::alarm::no_alarms` meets its contract: no counts and blank places. Assumes nothing.
+-- `settings::types::no_alarms` meets its contract: no counts and blank places. Assumes nothing.
 use borrow.Author.Needs.{needs}
 use Rattle.settings.specs.Alarm.{empty}
-use Rattle.settings.proofs.alarm.no_alarms.Statement.{statement}
-use Rattle.settings.proofs.alarm.no_alarms.Tie as tie
+use Rattle.settings.proofs.types.no_alarms.Statement.{statement}
+use Rattle.settings.proofs.types.no_alarms.Tie as tie
 
 returns : tie.Need-returns
 unfolding empty
