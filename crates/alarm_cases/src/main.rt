@@ -1,20 +1,18 @@
 // Reads sequences of scans from standard input, steps an alarm through each, and prints its events and its state.
 mod bench;
-mod mark;
 mod parse;
-mod show;
 
 use crate::bench::Bench;
 use crate::bench::fresh;
 use crate::bench::is_analog;
 use crate::bench::load;
 use crate::bench::scan;
-use crate::mark::put_marks;
 use crate::parse::command_word;
 use crate::parse::decimal;
 use crate::parse::next_word;
 use crate::parse::reading;
-use crate::show::put_scan;
+use alarm_text::mark::put_marks;
+use alarm_text::show::put_scan;
 use case_text::output::echo;
 use case_text::output::print;
 use case_text::parse::begins_with;

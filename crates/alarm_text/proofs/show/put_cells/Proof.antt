@@ -1,10 +1,10 @@
--- `alarm_cases::show::put_cells` meets its contract: the filled part stays within the line. The measure is the conditions left. Assumes nothing.
+-- `alarm_text::show::put_cells` meets its contract: the filled part stays within the line. The measure is the conditions left. Assumes nothing.
 use borrow.Author.Needs.{needs}
 use Prim.Native.Nat.{_≤_, _-_}
 use mathlib.Core.Path.{_≡_}
 use lib.ListN.{length}
-use Rattle.alarm_cases.proofs.show.put_cells.Statement.{statement}
-use Rattle.alarm_cases.proofs.show.put_cells.Tie as tie
+use Rattle.alarm_text.proofs.show.put_cells.Statement.{statement}
+use Rattle.alarm_text.proofs.show.put_cells.Tie as tie
 
 abbrev Inv-loop : tie.InvT-loop
 Inv-loop line₀ at analog s begin end₀ rest₀ c₀ line end rest c = (end ≤ length line) × (length line ≡ length line₀)

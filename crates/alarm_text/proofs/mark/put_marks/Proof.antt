@@ -1,10 +1,10 @@
--- `alarm_cases::mark::put_marks` meets its contract: the filled part stays within the line. The measure is the conditions left. Assumes nothing.
+-- `alarm_text::mark::put_marks` meets its contract: the filled part stays within the line. The measure is the conditions left. Assumes nothing.
 use borrow.Author.Needs.{needs}
 use Prim.Native.Nat.{_≤_, _-_}
 use mathlib.Core.Path.{_≡_}
 use lib.ListN.{length}
-use Rattle.alarm_cases.proofs.mark.put_marks.Statement.{statement}
-use Rattle.alarm_cases.proofs.mark.put_marks.Tie as tie
+use Rattle.alarm_text.proofs.mark.put_marks.Statement.{statement}
+use Rattle.alarm_text.proofs.mark.put_marks.Tie as tie
 
 abbrev Inv-loop : tie.InvT-loop
 Inv-loop line₀ analog marks begin end₀ c₀ line end c = (end ≤ length line) × (length line ≡ length line₀)

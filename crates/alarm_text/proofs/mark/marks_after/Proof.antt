@@ -1,8 +1,8 @@
--- `alarm_cases::mark::marks_after` is safe: the loop tests the place itself. The measure is the conditions left. Assumes nothing.
+-- `alarm_text::mark::marks_after` is safe: the loop tests the place itself. The measure is the conditions left. Assumes nothing.
 use borrow.Author.Needs.{needs}
 use Prim.Native.Nat.{_-_}
-use Rattle.alarm_cases.proofs.mark.marks_after.Statement.{statement}
-use Rattle.alarm_cases.proofs.mark.marks_after.Tie as tie
+use Rattle.alarm_text.proofs.mark.marks_after.Statement.{statement}
+use Rattle.alarm_text.proofs.mark.marks_after.Tie as tie
 
 abbrev Inv-loop : tie.InvT-loop
 Inv-loop s events required time reset marks₀ rest₀ c₀ marks rest c = Unit {0}

@@ -1,10 +1,10 @@
--- `alarm_cases::show::put_condition_events` meets its contract: the filled part stays within the line. The measure is the conditions left. Assumes nothing.
+-- `alarm_text::show::put_condition_events` meets its contract: the filled part stays within the line. The measure is the conditions left. Assumes nothing.
 use borrow.Author.Needs.{needs}
 use Prim.Native.Nat.{_≤_, _-_}
 use mathlib.Core.Path.{_≡_}
 use lib.ListN.{length}
-use Rattle.alarm_cases.proofs.show.put_condition_events.Statement.{statement}
-use Rattle.alarm_cases.proofs.show.put_condition_events.Tie as tie
+use Rattle.alarm_text.proofs.show.put_condition_events.Statement.{statement}
+use Rattle.alarm_text.proofs.show.put_condition_events.Tie as tie
 
 abbrev Inv-loop : tie.InvT-loop
 Inv-loop line₀ at analog events end₀ rest₀ c₀ t8 t9 t10 line end rest c = (end ≤ length line) × (length line ≡ length line₀)

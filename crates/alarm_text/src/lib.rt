@@ -1,0 +1,3 @@
+// An alarm as text: what a scan leaves, and the counts and stamps of its conditions.
+pub mod mark;
+pub mod show;
