@@ -3,6 +3,7 @@ use Prim.Native.Nat.{ℕ}
 use mathlib.Core.Bool.{Bool, false}
 use mathlib.Core.List.{List, [], _∷_}
 use Rattle.wire.specs.Bits.{bit, wordOf}
+use Rattle.level.specs.Level.{zero}
 use Rattle.level.specs.declared.rate.Sample.{Sample}
 use Rattle.alarm.specs.declared.state.State.{State}
 
@@ -142,3 +143,22 @@ packed a f =
 
 abbrev pub hideAnalog : AnalogHeld → State
 hideAnalog a = packed a (wordOf (analogFlags a))
+
+-- before the first scan, for either kind
+abbrev pub freshState : State
+freshState =
+    record {
+      flags = 0;
+      previous = 0;
+      sample = zero;
+      rate = zero;
+      sampled = 0;
+      high = 0;
+      low = 0;
+      hh = 0;
+      h = 0;
+      l = 0;
+      ll = 0;
+      rocpos = 0;
+      rocneg = 0;
+    }

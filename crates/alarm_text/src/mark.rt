@@ -13,7 +13,7 @@ use condition::row::choose;
 
 // How often a condition activated, and the times of its last activation, acknowledgement and return.
 pub struct Mark {
-    pub count: u32,
+    pub count: u64,
     pub alarm_at: u64,
     pub ack_at: u64,
     pub return_at: u64,

@@ -3,14 +3,14 @@ ghost use mathlib.Core.Path.{_≡_};
 ghost use Rattle.history.specs.Condition.{countUp, countAfter};
 ghost use Rattle.condition.specs.Mark.{ackStampAfter};
 
-fn count_up(n: u32) -> u32
+fn count_up(n: u64) -> u64
     ensures { λ r. ⌜ r ≡ countUp n ⌝ }
 {
     if n < 2_147_483_647 { n + 1 } else { n }
 }
 
 // A count reset comes first, then the activation.
-pub fn count_after(reset: bool, activated: bool, n: u32) -> u32
+pub fn count_after(reset: bool, activated: bool, n: u64) -> u64
     ensures { λ r. ⌜ r ≡ countAfter reset activated n ⌝ }
 {
     if reset {

@@ -7,7 +7,7 @@ use native.Mathlib.Nat.{sub-self}
 use native.Mathlib.Omega.{arith}
 use borrow.Author.Tests.{ltb-true, ltb-false, leb-true, eqb-true}
 use lib.Dec.{ltb, leb, eqb}
-use lib.ListN.{getD}
+use lib.ListN.{length, getD}
 use Rattle.wire.specs.Number.{number}
 use Rattle.wire.proofs.Laws.{and-true}
 use Rattle.wire.specs.Real.{realAt, bounded}
@@ -15,12 +15,13 @@ use Rattle.settings.specs.Reply.{refusal}
 use Rattle.settings.specs.declared.types.Form.{Form}
 use Rattle.settings.specs.declared.types.Form.the-variants.{Digital, Analog}
 use Rattle.settings.specs.declared.reply.Refusal.{Refusal}
+use Rattle.settings.specs.declared.reply.Reply.{Reply}
 use Rattle.settings.specs.declared.reply.Reply.the-variants.{Accepted, Refused as RefusedBy}
 use Rattle.alarm.specs.declared.step.Reading.{Reading}
 use Rattle.alarm.specs.declared.step.Reading.the-variants.{Digital as Bit, Level}
 use Rattle.scan_record.specs.Entry.{digitalWord, analogWord, digitalEntry, analogEntry, entrySize, entryAt}
-use Rattle.scan_record.specs.Check.{formAt, recordSize, checkFrom, whole}
-use Rattle.scan_record.specs.Part.{offsetOf}
+use Rattle.scan_record.specs.Check.{formAt, recordSize, checkFrom, whole, checkRecord}
+use Rattle.scan_record.specs.Part.{timeOf, offsetOf}
 use Rattle.scan_record.specs.declared.entry.Entry.the-variants.{Read, Refused}
 
 -- a choice of reading or refusals that ended in a reading
@@ -78,3 +79,17 @@ whole-says digital analog len h =
       analog-most = leb-true analog 12 (most .1);
       size = eqb-true len (recordSize digital analog) (size .1);
     }
+
+-- tests that all let a record pass
+passed : (p q : Bool) (r r′ : Refusal) (x : Reply) → cond p (cond q (RefusedBy r) x) (RefusedBy r′) ≡ Accepted → (p ≡ true) × (q ≡ false) × (x ≡ Accepted)
+passed true true r r′ x e = let z : _≡_ {A = ℕ} 0 1 = cc in absurd (omega arith)
+passed true false r r′ x e = (refl, refl, e)
+passed false q r r′ x e = let z : _≡_ {A = ℕ} 0 1 = cc in absurd (omega arith)
+
+-- what an accepted record says: its length, its time, and that each alarm's part passed
+pub accepted-says : (digital analog last : ℕ) (rec : List ℕ) → checkRecord digital analog last rec ≡ Accepted
+    → Whole digital analog (length rec) × (last ≤ timeOf rec) × (checkFrom rec digital (digital + analog) 0 8 ≡ Accepted)
+unfolding checkRecord
+accepted-says digital analog last rec e =
+    let t = passed (whole digital analog (length rec)) (ltb (timeOf rec) last) (refusal 8 0) (refusal 7 0) (checkFrom rec digital (digital + analog) 0 8) e in
+    (whole-says digital analog (length rec) (t .0), ltb-false (timeOf rec) last (t .1), t .2)

@@ -1,8 +1,9 @@
 -- Laws of little-endian numbers and of consecutive writes, each over the width. Assumes nothing.
 use mathlib.Core.Path.{_≡_, refl, sym, ap, ap₂, _∙_}
 use mathlib.Core.List.{List, [], _∷_, _++_, append-assoc}
+use mathlib.Core.Logic.{_⊎_, inl, inr}
 use Prim.Native.Nat.{ℕ, zero, suc, _+_, _*_, _/_, _%_, _^_, _≤_, _<_}
-use native.Mathlib.Nat.{add-zero, add-suc, mul-zero, add-assoc, zero-add, pow-zero, pow-suc, pow-succ', div-one, div-div-eq-div-mul, mul-pos, one-mul, mul-assoc, mul-add, suc-add, lt-of-not-le, not-le-of-lt}
+use native.Mathlib.Nat.{eq-or-lt-of-le, le-of-suc-le-suc, add-zero, add-suc, mul-zero, add-assoc, zero-add, pow-zero, pow-suc, pow-succ', div-one, div-div-eq-div-mul, mul-pos, one-mul, mul-assoc, mul-add, suc-add, lt-of-not-le, not-le-of-lt}
 use native.Mathlib.Numerals.{add-one}
 use native.Mathlib.Omega.{arith}
 use mathlib.Core.Bool.{Bool, true, false, _&&_, false≢true}
@@ -186,3 +187,17 @@ number-lt s at n b h = rw length-part at (value-lt (part s at n) (take-bytes n (
 pub and-true : (a b : Bool) → a && b ≡ true → (a ≡ true) × (b ≡ true)
 and-true true b e = (refl, e)
 and-true false b e = absurd (false≢true e)
+
+-- an element that a list has, whatever stands for one that it lacks
+pub getD-within : {A : Type 0} (xs : List A) (n : ℕ) (d e : A) → n < length xs → getD xs n d ≡ getD xs n e
+getD-within [] n d e h = absurd (omega arith)
+getD-within (x ∷ xs) zero d e h = refl
+getD-within (x ∷ xs) (suc n) d e h = getD-within xs n d e (omega arith)
+
+-- a place below n + 1 is n or below it
+pub below : (P : ℕ → Type 0) {n p : ℕ} → p < suc n → P n → (p < n → P p) → P p
+below P {n} {p} h last before = go (eq-or-lt-of-le (le-of-suc-le-suc h))
+  where
+    go : (p ≡ n) ⊎ (p < n) → P p
+    go (inl e) = rw e last
+    go (inr l) = before l

@@ -1,0 +1,2 @@
+pub mod Bank
+pub mod Scan

@@ -1,0 +1,23 @@
+-- The four stores of a condition, one after the other. Assumes nothing.
+use mathlib.Core.Bool.{Bool}
+use mathlib.Core.List.{List}
+use mathlib.Core.Path.{_≡_}
+use Prim.Native.Nat.{ℕ, _+_, _/_, _%_}
+use native.Mathlib.Numerals.{add-one, add-two, add-three}
+use lib.Dec.{eqb}
+use lib.ListN.{set}
+use Rattle.wire.specs.Bits.{bit}
+use Rattle.wire.proofs.WordLaws.{bit-zero}
+use Rattle.condition.specs.Mark.{Marks, marksAfter}
+use Rattle.marks.specs.Marks.{marksAt, markCondition}
+
+module _ (reset required : Bool) (word start time at : ℕ) (xs : List ℕ) where
+  -- what the code stores
+  abbrev after : Marks
+  after = marksAfter reset (eqb (word % 2) 1) (eqb (word / 2 % 2) 1) (eqb (word / 4 % 2) 1) required start time (marksAt xs at)
+
+  pub condition-stores : {count alarm ack back : ℕ} → count ≡ after .count → alarm ≡ after .alarm → ack ≡ after .ack → back ≡ after .return
+      → set (set (set (set xs at count) (at + 1) alarm) (at + 2) ack) (at + 3) back
+      ≡ markCondition reset (bit word 0) (bit word 1) (bit word 2) required start time at xs
+  unfolding markCondition
+  condition-stores e₀ e₁ e₂ e₃ = rw (e₀, e₁, e₂, e₃, bit-zero, add-one at, add-two at, add-three at)

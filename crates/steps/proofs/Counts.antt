@@ -1,0 +1,39 @@
+-- How many events a scan has, by its event words. Assumes nothing.
+use mathlib.Core.Path.{_≡_, refl, sym, ap, _∙_}
+use mathlib.Core.Bool.{Bool, true, false, cond}
+use mathlib.Core.List.{List, [], _∷_}
+use Prim.Native.Nat.{ℕ, _+_, _*_, _^_, _≤_, _<_}
+use native.Mathlib.Omega.{arith}
+use lib.ListN.{length, getD, replicate}
+use Rattle.wire.specs.Bits.{wordOf}
+use Rattle.wire.proofs.WordLaws.{word-lt}
+use Rattle.settings.specs.declared.types.Alarm.{Alarm}
+use Rattle.settings.specs.declared.types.Kind.{Kind}
+use Rattle.settings.specs.declared.types.Kind.the-variants.{Digital, Analog}
+use Rattle.alarm.specs.Held.{lookDigital, lookAnalog}
+use Rattle.alarm.specs.Digital.{digitalEvents, digitalStep}
+use Rattle.alarm.specs.Analog.{analogEvents, analogStep}
+use Rattle.alarm.specs.Step.{stepKind, stepOf}
+use Rattle.alarm.specs.declared.state.State.{State}
+use Rattle.alarm.specs.declared.step.Reading.{Reading}
+use Rattle.alarm.specs.declared.step.Reading.the-variants.{Digital as Bit, Level}
+use Rattle.steps.specs.Plan.{stepPart, stepAt, planOf, placed}
+use Rattle.steps.proofs.Alarms.{placed-below}
+
+-- an event word has 24 bits
+step-word : (k : Kind) (flags duration : ℕ) (s : State) (x : Reading) (word time : ℕ) → stepKind k flags duration s x word time .events < 2 ^ 24
+unfolding stepKind digitalStep analogStep
+step-word (Digital severity) flags duration s (Bit input) word time = omega (arith, word-lt (digitalEvents flags duration input word time (lookDigital s)))
+step-word (Digital severity) flags duration s (Level x) word time = omega arith
+step-word (Analog g severities period) flags duration s (Bit input) word time = omega arith
+step-word (Analog g severities period) flags duration s (Level x) word time = omega (arith, word-lt (analogEvents flags duration g period x word time (lookAnalog s)))
+
+module _ (rec : List ℕ) (digital : ℕ) (alarms : List Alarm) (states : List State) (time : ℕ) where
+  -- the event word of the alarm at a place
+  pub word-at : (n i : ℕ) → n ≤ 24 → i < n → getD (planOf rec digital n alarms states time .events) i 0 ≡ stepAt rec digital alarms states time i .events
+  unfolding planOf
+  word-at n i m h = placed-below (λ p. stepAt rec digital alarms states time p .events) n i (replicate 24 0) 0 h m
+
+  pub word-small : (n i : ℕ) → n ≤ 24 → i < n → getD (planOf rec digital n alarms states time .events) i 0 < 2 ^ 24
+  unfolding stepPart
+  word-small n i m h = rw (word-at n i m h) (step-word _ _ _ _ _ _ _)
