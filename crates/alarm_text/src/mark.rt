@@ -6,7 +6,7 @@ use crate::show::put_none;
 use crate::show::row_start;
 use alarm::state::State;
 use case_text::buffer::append;
-use case_text::show::put_number;
+use case_text::show::put_field;
 use condition::mark::ack_stamp;
 use condition::mark::count_after;
 use condition::row::choose;
@@ -55,14 +55,6 @@ pub fn marks_after(old: [Mark; 6], s: State, events: u32, required: bool, time: 
     marks
 }
 
-fn put_field(line: &mut [u8], at: usize, n: u64) -> usize
-    requires { ⌜ at ≤ length (now line) ⌝ }
-    ensures { λ r. ⌜ r ≤ length (now (line .entry)) ⌝ }
-{
-    let end = append(line, at, b" ");
-    put_number(line, end, n)
-}
-
 // A condition's mark, unless all of it is 0.
 fn put_mark(line: &mut [u8], at: usize, analog: bool, c: usize, mark: Mark) -> usize
     requires { ⌜ at ≤ length (now line) ⌝ }
@@ -72,7 +64,7 @@ fn put_mark(line: &mut [u8], at: usize, analog: bool, c: usize, mark: Mark) -> u
         return at;
     }
     let mut end = put_name(line, at, analog, c);
-    end = put_field(line, end, mark.count as u64);
+    end = put_field(line, end, mark.count);
     end = put_field(line, end, mark.alarm_at);
     end = put_field(line, end, mark.ack_at);
     put_field(line, end, mark.return_at)

@@ -12,6 +12,25 @@ pub fn put_number(line: &mut [u8], at: usize, n: u64) -> usize
     append(line, at, &digits[..count])
 }
 
+// Adds a number behind a space.
+pub fn put_field(line: &mut [u8], at: usize, n: u64) -> usize
+    requires { ⌜ at ≤ length (now line) ⌝ }
+    ensures { λ r. ⌜ r ≤ length (now (line .entry)) ⌝ }
+{
+    let end = append(line, at, b" ");
+    put_number(line, end, n)
+}
+
+// Adds a refusal's number and place.
+pub fn put_refusal(line: &mut [u8], at: usize, number: u32, place: usize) -> usize
+    requires { ⌜ at ≤ length (now line) ⌝ }
+    ensures { λ r. ⌜ r ≤ length (now (line .entry)) ⌝ }
+{
+    let mut end = append(line, at, b"refused");
+    end = put_field(line, end, number as u64);
+    put_field(line, end, place as u64)
+}
+
 // Adds a word that says whether something holds.
 pub fn put_word(line: &mut [u8], at: usize, holds: bool, yes: &[u8], no: &[u8]) -> usize
     requires { ⌜ at ≤ length (now line) ⌝ }

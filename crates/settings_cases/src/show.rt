@@ -3,19 +3,8 @@ ghost use Prim.Native.Nat.{_≤_};
 ghost use lib.ListN.{length};
 use case_text::buffer::append;
 use case_text::show::put_number;
-use settings::reply::Refusal;
+use case_text::show::put_refusal;
 use settings::reply::Reply;
-
-// A refusal's number and place.
-pub fn put_refusal(line: &mut [u8], at: usize, refusal: Refusal) -> usize
-    requires { ⌜ at ≤ length (now line) ⌝ }
-    ensures { λ r. ⌜ r ≤ length (now (line .entry)) ⌝ }
-{
-    let mut end = append(line, at, b"refused ");
-    end = put_number(line, end, refusal.number as u64);
-    end = append(line, end, b" ");
-    put_number(line, end, refusal.place as u64)
-}
 
 pub fn put_reply(line: &mut [u8], at: usize, reply: Reply) -> usize
     requires { ⌜ at ≤ length (now line) ⌝ }
@@ -23,7 +12,7 @@ pub fn put_reply(line: &mut [u8], at: usize, reply: Reply) -> usize
 {
     match reply {
         Reply::Accepted => append(line, at, b"accepted"),
-        Reply::Refused(refusal) => put_refusal(line, at, refusal),
+        Reply::Refused(refusal) => put_refusal(line, at, refusal.number, refusal.place),
     }
 }
 

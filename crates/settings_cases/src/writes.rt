@@ -2,10 +2,10 @@
 // 1,024 bytes of 0xA5, so a write beyond it would be seen.
 ghost use Prim.Native.Nat.{_≤_};
 ghost use lib.ListN.{length};
-use crate::show::put_refusal;
 use case_text::buffer::append;
 use case_text::parse::begins_with;
 use case_text::show::put_number;
+use case_text::show::put_refusal;
 use case_text::show::put_word;
 use image::write::Written;
 use image::write::write;
@@ -50,7 +50,7 @@ fn put_write(line: &mut [u8], at: usize, settings: Settings, size: usize, image:
     let mut out = [0xA5u8; 1024];
     match write(settings, &mut out[..size]) {
         Written::Refused(refusal) => {
-            let end = put_refusal(line, at, refusal);
+            let end = put_refusal(line, at, refusal.number, refusal.place);
             put_word(line, end, is_kept(&out, 0), b" kept", b" touched")
         }
         Written::Length(length) => {

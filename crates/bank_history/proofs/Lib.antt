@@ -1,0 +1,6 @@
+pub mod Views
+pub mod Banks
+pub mod Lists
+pub mod Reported
+pub mod Enough
+pub mod Demand

@@ -1,0 +1,32 @@
+-- `meifgur::show::add_bank` is safe and ends. The measure is the numbers left. Assumes nothing.
+use borrow.Author.Needs.{needs}
+use Prim.Native.Nat.{_-_}
+use mathlib.Core.Path.{_≡_}
+use lib.ListN.{length}
+use Rattle.meifgur.proofs.show.add_bank.Statement.{statement}
+use Rattle.meifgur.proofs.show.add_bank.Tie as tie
+
+abbrev Inv-loop : tie.InvT-loop
+Inv-loop text₀ bank digital added₀ n₀ text added n = length text ≡ length text₀
+
+abbrev μ-loop : tie.MeasureT-loop
+μ-loop text₀ bank digital added₀ n₀ text added n = 25 - n
+
+pub add-bank-spec : {M : Type 1} → statement M
+add-bank-spec =
+    tie.close
+    (tie.spec
+    Inv-loop
+    μ-loop
+    (λ c. search needs)
+    (λ c κs. search needs)
+    (λ c. search needs)
+    (λ c. search needs)
+    (λ c. search needs)
+    (λ c. search needs)
+    (λ c κs. search needs)
+    (λ c. search needs)
+    (λ c. search needs)
+    (λ c. search needs)
+    (λ c. search needs)
+    (λ c. search needs))
