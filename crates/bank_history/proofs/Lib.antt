@@ -4,3 +4,4 @@ pub mod Lists
 pub mod Reported
 pub mod Enough
 pub mod Demand
+pub mod Examples
