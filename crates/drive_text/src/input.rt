@@ -34,19 +34,6 @@ pub fn read_image(image: &mut [u8]) -> usize
     end
 }
 
-// The length of a scan record for so many alarms. A bank has at most 12 of either kind; a larger number counts as 12.
-pub fn record_length(digital: usize, analog: usize) -> usize
-    ensures { λ r. ⌜ 8 ≤ r ⌝ }
-{
-    8 + 5 * most_12(digital) + 8 * most_12(analog)
-}
-
-fn most_12(n: usize) -> usize
-    ensures { λ r. ⌜ r ≤ 12 ⌝ }
-{
-    if n < 12 { n } else { 12 }
-}
-
 // Moves the filled bytes from `used` on to the block's front and answers how many they are.
 pub fn keep_rest(block: &mut [u8], used: usize, filled: usize) -> usize
     requires { ⌜ filled ≤ length (now block) ⌝ }

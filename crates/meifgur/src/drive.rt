@@ -9,10 +9,10 @@ use drive_text::input::Input;
 use drive_text::input::Source;
 use drive_text::input::keep_rest;
 use drive_text::input::read_on;
-use drive_text::input::record_length;
 use drive_text::output::Output;
 use drive_text::output::flush;
 use drive_text::output::open;
+use scan_record::check::record_length;
 
 // A bank on its way through the input, and where input and output stand.
 struct Drive {

@@ -24,6 +24,10 @@ formAt digital place = cond (ltb place digital) Digital Analog
 abbrev pub recordSize : ℕ → ℕ → ℕ
 recordSize digital analog = 8 + 5 * digital + 8 * analog
 
+-- the length of a bank's records. (A bank with counts over 12, which no call hands back, has none; each 8 bytes are refused then)
+unfoldable pub lengthOf : ℕ → ℕ → ℕ
+lengthOf digital analog = cond (leb digital 12 && leb analog 12) (recordSize digital analog) 8
+
 abbrev pub onEntry : Entry → (Reading → ℕ → ℕ → Reply) → (Refusal → Reply) → Reply
 onEntry (Read x word next) f g = f x word next
 onEntry (Refused r) f g = g r

@@ -2,7 +2,7 @@
 ghost use mathlib.Core.Path.{_≡_};
 ghost use Prim.Native.Nat.{_+_, _≤_};
 ghost use lib.ListN.{length};
-ghost use Rattle.scan_record.specs.Check.{formAt, recordSize, checkFrom, whole, checkRecord};
+ghost use Rattle.scan_record.specs.Check.{formAt, recordSize, lengthOf, checkFrom, whole, checkRecord};
 use crate::entry::Entry;
 use crate::entry::entry_at;
 use settings::reply::Refusal;
@@ -19,6 +19,19 @@ pub fn form_at(digital: usize, place: usize) -> Form
     } else {
         Form::Analog
     }
+}
+
+// The length of the records of a bank with so many alarms.
+pub fn record_length(digital: usize, analog: usize) -> usize
+    ensures { λ r. ⌜ (r ≡ lengthOf digital analog) × (8 ≤ r) ⌝ }
+{
+    if 12 < digital {
+        return 8;
+    }
+    if 12 < analog {
+        return 8;
+    }
+    8 + 5 * digital + 8 * analog
 }
 
 // Checks each alarm in number order and answers the first refusal, of a record that has the right length.

@@ -1,0 +1,2 @@
+// Many scans of a bank in one call.
+pub mod replay;
