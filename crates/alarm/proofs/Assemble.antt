@@ -15,7 +15,7 @@ use Rattle.condition.specs.Mode.{modeBits}
 use Rattle.condition.specs.Outcome.{toldOf, outcomeBits}
 use Rattle.alarm.specs.Held.{lookDigital, digitalFlags, High, Low, AnalogHeld, lookAnalog, analogFlags}
 use Rattle.alarm.specs.Digital.{digitalTold, digitalAfter, digitalEvents}
-use Rattle.alarm.specs.Cells.{cell, six, cellsOf}
+use Rattle.six.specs.Cells.{cell, six, cellsOf}
 use Rattle.alarm.specs.Packed.{readyBits, startsAfter, decided}
 use Rattle.alarm.specs.Analog.{analogAfter, analogEvents}
 use Rattle.alarm.specs.declared.state.State.{State}

@@ -1,7 +1,6 @@
 pub mod Held
 pub mod Digital
 pub mod Analog
-pub mod Cells
 pub mod Packed
 pub mod Step
 pub mod Events

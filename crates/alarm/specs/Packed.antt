@@ -10,8 +10,8 @@ use Rattle.level.specs.Level.{freesBits}
 use Rattle.level.specs.Rate.{sampleAfter}
 use Rattle.level.specs.declared.rate.Sample.{Sample}
 use Rattle.condition.specs.Command.{ackBits}
-use Rattle.alarm.specs.Cells.{cellsOf}
-use Rattle.alarm.specs.declared.cells.Cells.{Cells}
+use Rattle.six.specs.Cells.{cellsOf}
+use Rattle.six.specs.declared.decide.Cells.{Cells}
 use Rattle.alarm.specs.declared.state.State.{State}
 
 -- a level: its side's run has lasted, or its side had a condition in alarm; a rate always

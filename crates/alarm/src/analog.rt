@@ -4,8 +4,6 @@ ghost use Prim.Native.Nat.{_<_};
 ghost use Rattle.wire.specs.Bits.{wordOf};
 ghost use Rattle.alarm.specs.Analog.{analogStep};
 ghost use Rattle.alarm.specs.Packed.{readyBits, startsAfter, resampled, decided};
-use crate::cells::Cells;
-use crate::cells::decide;
 use crate::state::State;
 use crate::state::Stepped;
 use condition::command::ack_word;
@@ -17,6 +15,8 @@ use level::level::met_word;
 use level::rate::Sample;
 use level::rate::sample_after;
 use settings::types::Limits;
+use six::decide::Cells;
+use six::decide::decide;
 use wire::bits::word3;
 use wire::bits::word6;
 

@@ -1,6 +1,5 @@
 // The step of one alarm in one scan, digital or analog.
 pub mod analog;
-pub mod cells;
 pub mod digital;
 pub mod state;
 pub mod step;

@@ -10,7 +10,7 @@ use Rattle.wire.proofs.WordLaws.{bit-word, word-low}
 use Rattle.level.specs.Level.{metBits}
 use Rattle.condition.specs.Mode.{modeBits}
 use Rattle.alarm.specs.Held.{High, Low, packed}
-use Rattle.alarm.specs.Cells.{six}
+use Rattle.six.specs.Cells.{six}
 use Rattle.alarm.specs.Packed.{resampled, startsAfter}
 use Rattle.alarm.specs.Analog.{analogStep}
 use Rattle.alarm.proofs.Assemble.{after, outcomes, decided-is, analog-flags, analog-events}

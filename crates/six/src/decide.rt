@@ -3,7 +3,7 @@ ghost use mathlib.Core.Path.{_≡_};
 ghost use Prim.Native.Nat.{_+_, _*_, _<_};
 ghost use Rattle.wire.specs.Bits.{bit, wordOf};
 ghost use Rattle.condition.specs.Outcome.{outcome};
-ghost use Rattle.alarm.specs.Cells.{cellsOf};
+ghost use Rattle.six.specs.Cells.{cellsOf};
 use condition::outcome::condition;
 
 // Bits of the six conditions: what each keeps, three a condition, and its events, three a condition.

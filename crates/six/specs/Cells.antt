@@ -5,7 +5,7 @@ use mathlib.Core.List.{List, _++_}
 use lib.ListN.{take, drop}
 use Rattle.wire.specs.Bits.{bit, wordOf}
 use Rattle.condition.specs.Outcome.{toldOf, outcomeBits}
-use Rattle.alarm.specs.declared.cells.Cells.{Cells}
+use Rattle.six.specs.declared.decide.Cells.{Cells}
 
 -- the outcome of the condition at place k, whose bits in the flags begin at 6 + 3 k
 abbrev pub cell : ℕ → Bool → ℕ → ℕ → ℕ → ℕ → Bool → ℕ → List Bool

@@ -1,13 +1,13 @@
--- `alarm::cells::decide` meets its contract: six outcomes, their halves packed apart. Assumes nothing.
+-- `six::decide::decide` meets its contract: six outcomes, their halves packed apart. Assumes nothing.
 use borrow.Author.Needs.{needs}
-use Rattle.alarm.specs.Cells.{cell, six, cellsOf}
+use Rattle.six.specs.Cells.{cell, six, cellsOf}
 use Rattle.wire.proofs.WordLaws.{bit-shift, word-halves, word-threes}
 use lib.ListN.{take, drop}
 use mathlib.Core.Path.{_≡_, refl, ap₂, _∙_}
 use Prim.Native.Nat.{ℕ}
 use Rattle.wire.specs.Bits.{wordOf}
-use Rattle.alarm.proofs.cells.decide.Statement.{statement}
-use Rattle.alarm.proofs.cells.decide.Tie as tie
+use Rattle.six.proofs.decide.decide.Statement.{statement}
+use Rattle.six.proofs.decide.decide.Tie as tie
 
 returns : tie.Need-returns
 unfolding cellsOf
