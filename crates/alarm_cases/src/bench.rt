@@ -1,11 +1,11 @@
 // An alarm under test: its settings, its state, and the marks of its conditions.
-use crate::parse::put_image;
 use alarm::state::State;
 use alarm::step::Reading;
 use alarm::step::step;
 use alarm_text::mark::Mark;
 use alarm_text::mark::blank_mark;
 use alarm_text::mark::marks_after;
+use case_text::hex_text::put_image;
 use settings::read::read;
 use settings::types::Alarm;
 use settings::types::Kind;

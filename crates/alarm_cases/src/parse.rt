@@ -1,77 +1,8 @@
-// The lines of a sequence as text: words separated by spaces.
-ghost use Prim.Native.Nat.{_≤_, _<_};
-ghost use lib.ListN.{length};
+// A reading as text.
 use alarm::step::Reading;
-use case_text::buffer::push;
 use case_text::parse::begins_with;
-use case_text::parse::digit;
-use case_text::parse::find;
+use case_text::words::hex;
 use wire::real::from_pattern;
-
-// Where the word after the one at `from` begins, or the text's length.
-pub fn next_word(text: &[u8], from: usize) -> usize
-    requires { ⌜ from ≤ length (now text) ⌝ }
-    ensures { λ r. ⌜ r ≤ length (now (text .entry)) ⌝ }
-{
-    let end = find(text, from, b' ');
-    if end < text.len() { end + 1 } else { end }
-}
-
-// Puts the image that a text spells in front and answers its length: pairs of hex digits, with spaces between any two.
-pub fn put_image(image: &mut [u8], text: &[u8]) -> usize
-    ensures { λ r. ⌜ r ≤ length (now (image .entry)) ⌝ }
-{
-    let mut end = 0;
-    let mut i = 0;
-    while i + 1 < text.len() {
-        if text[i] == b' ' {
-            i += 1;
-        } else {
-            end = push(image, end, digit(text[i]) * 16 + digit(text[i + 1]));
-            i += 2;
-        }
-    }
-    end
-}
-
-// A number with a decimal digit behind it, or the largest number where that is too large.
-fn extend(n: u64, d: u8) -> u64
-    requires { ⌜ d < 16 ⌝ }
-{
-    if n <= (0xFFFF_FFFF_FFFF_FFFF - d as u64) / 10 {
-        n * 10 + d as u64
-    } else {
-        0xFFFF_FFFF_FFFF_FFFF
-    }
-}
-
-// The number that the decimal digits of a text's first word spell.
-pub fn decimal(text: &[u8]) -> u64 {
-    let mut n = 0;
-    let mut i = 0;
-    while i < text.len() {
-        if text[i] == b' ' {
-            return n;
-        }
-        n = extend(n, digit(text[i]));
-        i += 1;
-    }
-    n
-}
-
-// The number that the hex digits of a text's first word spell, or its last 32 bits.
-fn hex(text: &[u8]) -> u32 {
-    let mut n = 0;
-    let mut i = 0;
-    while i < text.len() {
-        if text[i] == b' ' {
-            return n;
-        }
-        n = n % 0x1000_0000 * 16 + digit(text[i]) as u32;
-        i += 1;
-    }
-    n
-}
 
 // A reading: `0` or `1`, or a REAL as `x`, which counts as a 0, and the hex digits of its pattern.
 pub fn reading(text: &[u8]) -> Reading {
@@ -80,19 +11,4 @@ pub fn reading(text: &[u8]) -> Reading {
     } else {
         Reading::Digital(begins_with(text, b"1"))
     }
-}
-
-// The command word whose set bits stand in a text, with `+` between any two; `-` is none.
-pub fn command_word(text: &[u8]) -> u32 {
-    if begins_with(text, b"-") {
-        return 0;
-    }
-    let mut word = 0;
-    let mut at = 0;
-    while at < text.len() {
-        let end = find(text, at, b'+');
-        word |= 1 << (decimal(&text[at..end]) % 32);
-        at = end + 1;
-    }
-    word
 }

@@ -149,7 +149,7 @@ fn put_runs(line: &mut [u8], at: usize, s: State) -> usize
 }
 
 // The rate by its pattern.
-fn put_rate(line: &mut [u8], at: usize, rate: f32) -> usize
+pub fn put_rate(line: &mut [u8], at: usize, rate: f32) -> usize
     requires { ⌜ at ≤ length (now line) ⌝ }
     ensures { λ r. ⌜ r ≤ length (now (line .entry)) ⌝ }
 {

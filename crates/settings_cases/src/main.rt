@@ -1,14 +1,13 @@
 // Reads test cases from standard input, runs the settings reader and writer on each, and prints what they answer.
-mod parse;
-mod show;
+
 mod writes;
 
 ghost use Prim.Native.Nat.{_≤_};
 ghost use lib.ListN.{length};
-use crate::parse::put_image;
-use crate::show::put_bank;
-use crate::show::put_reply;
 use crate::writes::put_writes;
+use call_text::reply::put_bank;
+use call_text::reply::put_reply;
+use case_text::hex_text::put_image;
 use case_text::output::echo;
 use case_text::output::print;
 use case_text::parse::find;
