@@ -6,7 +6,7 @@ use alarm_text::mark::Mark;
 use alarm_text::mark::blank_mark;
 use alarm_text::mark::marks_after;
 use case_text::hex_text::put_image;
-use settings::read::read;
+use reader::read::read;
 use settings::types::Alarm;
 use settings::types::Kind;
 

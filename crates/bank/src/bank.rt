@@ -3,7 +3,7 @@ ghost use mathlib.Core.Path.{_≡_};
 ghost use Rattle.alarm.specs.Held.{freshState};
 ghost use Rattle.bank.specs.Bank.{freshBank, loadOf};
 use alarm::state::State;
-use settings::read::read;
+use reader::read::read;
 use settings::reply::Reply;
 use settings::types::Settings;
 

@@ -7,7 +7,7 @@ use lib.Dec.{T}
 use lib.ListN.{length, getD}
 use lib.Pow.{areBytes}
 use Rattle.settings.specs.Alarm.{blank}
-use Rattle.settings.specs.Read.{readOf}
+use Rattle.reader.specs.Read.{readOf}
 use Rattle.settings.specs.declared.reply.Reply.the-variants.{Accepted}
 use Rattle.settings.specs.declared.types.Settings.{Settings}
 use Rattle.image.specs.Write.{imageOf}

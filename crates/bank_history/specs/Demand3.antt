@@ -9,7 +9,7 @@ use lib.ListN.{getD}
 use lib.Pow.{areBytes}
 use Rattle.history.specs.Words.{Demand3}
 use Rattle.settings.specs.Alarm.{blank}
-use Rattle.settings.specs.Read.{readOf}
+use Rattle.reader.specs.Read.{readOf}
 use Rattle.settings.specs.declared.types.Alarm.{Alarm}
 use Rattle.settings.specs.declared.types.Kind.{Kind}
 use Rattle.settings.specs.declared.types.Kind.the-variants.{Digital, Analog}

@@ -17,15 +17,15 @@ use Rattle.wire.proofs.Laws.{and-true, part-suc, wordsAt, words-back, number-lt
 use Rattle.wire.proofs.Reals.{pattern-back}
 use Rattle.settings.specs.Reply.{refusal}
 use Rattle.settings.specs.Rules.{onHH, onH, onL, onLL, nonNegative, limitsInRange, durationInRange, periodInRange, inRange, ordered, rising, lowOf, highOf, banded, apart}
-use Rattle.settings.specs.Record.{digitalAlarm, digitalRecord, severitiesAt, limitsAt, analogAlarm, analogRecord, sizeOf, recordAt}
+use Rattle.reader.specs.Record.{digitalAlarm, digitalRecord, severitiesAt, limitsAt, analogAlarm, analogRecord, sizeOf, recordAt}
 use Rattle.image.specs.Write.{severityWords, limitWords, digitalBytes, analogBytes, kindBytes, recordBytes}
 use Rattle.settings.specs.Sound.{Bounded, Rising, Banded, Sound}
 use Rattle.settings.specs.declared.types.Limits.{Limits}
 use Rattle.settings.specs.declared.types.Alarm.{Alarm}
 use Rattle.settings.specs.declared.types.Form.{Form}
 use Rattle.settings.specs.declared.types.Form.the-variants.{Digital as DigitalForm, Analog as AnalogForm}
-use Rattle.settings.specs.declared.record.Record.{Record}
-use Rattle.settings.specs.declared.record.Record.the-variants.{Alarm as Recorded, Refused as NoRecord}
+use Rattle.reader.specs.declared.record.Record.{Record}
+use Rattle.reader.specs.declared.record.Record.the-variants.{Alarm as Recorded, Refused as NoRecord}
 use Rattle.settings.specs.declared.reply.Refusal.{Refusal}
 
 -- ---- tests taken apart

@@ -15,10 +15,10 @@ use lib.Seq.{slice, slice-empty, slice-cons, take-take, take-set-le, getD-take, 
 use Rattle.wire.specs.Number.{part}
 use Rattle.wire.proofs.Laws.{part-suc, part-add}
 use Rattle.settings.specs.Alarm.{blank, blanks}
-use Rattle.settings.specs.Count.{countAt}
-use Rattle.settings.specs.Record.{recordAt, sizeOf}
-use Rattle.settings.specs.Section.{recordsFrom, sectionAt, onRecord, onCount}
-use Rattle.settings.specs.Read.{readOf, restOf, onSection, refusedBy}
+use Rattle.reader.specs.Count.{countAt}
+use Rattle.reader.specs.Record.{recordAt, sizeOf}
+use Rattle.reader.specs.Section.{recordsFrom, sectionAt, onRecord, onCount}
+use Rattle.reader.specs.Read.{readOf, restOf, onSection, refusedBy}
 use Rattle.image.specs.Write.{recordsBytes, sectionBytes, imageOf, hasRoom, writtenOf, bufferOf}
 use Rattle.settings.specs.Reply.{refusal}
 use Rattle.settings.specs.Sound.{SoundAlarm}
@@ -27,19 +27,19 @@ use Rattle.settings.specs.declared.types.Alarm.{Alarm}
 use Rattle.settings.specs.declared.types.Form.{Form}
 use Rattle.settings.specs.declared.types.Form.the-variants.{Digital as DigitalForm, Analog as AnalogForm}
 use Rattle.settings.specs.declared.reply.Refusal.{Refusal}
-use Rattle.settings.specs.declared.count.Count.{Count}
-use Rattle.settings.specs.declared.count.Count.the-variants.{Alarms, Refused as NoCount}
-use Rattle.settings.specs.declared.record.Record.{Record}
-use Rattle.settings.specs.declared.record.Record.the-variants.{Alarm as Recorded, Refused as NoRecord}
-use Rattle.settings.specs.declared.section.Filled.{Filled}
-use Rattle.settings.specs.declared.section.Section.{Section}
-use Rattle.settings.specs.declared.section.Section.the-variants.{Read, Refused}
+use Rattle.reader.specs.declared.count.Count.{Count}
+use Rattle.reader.specs.declared.count.Count.the-variants.{Alarms, Refused as NoCount}
+use Rattle.reader.specs.declared.record.Record.{Record}
+use Rattle.reader.specs.declared.record.Record.the-variants.{Alarm as Recorded, Refused as NoRecord}
+use Rattle.reader.specs.declared.section.Filled.{Filled}
+use Rattle.reader.specs.declared.section.Section.{Section}
+use Rattle.reader.specs.declared.section.Section.the-variants.{Read, Refused}
 use Rattle.settings.specs.declared.types.Settings.{Settings}
 use Rattle.settings.specs.declared.reply.Reply.the-variants.{Accepted}
-use Rattle.settings.specs.declared.read.Loaded.{Loaded}
+use Rattle.reader.specs.declared.read.Loaded.{Loaded}
 use Rattle.image.specs.declared.write.Written.the-variants.{Length, Refused as TooShort}
 use Rattle.image.proofs.Inverse.{Inverse, inverse}
-use Rattle.settings.proofs.Sections.{count-read, records-count}
+use Rattle.reader.proofs.Sections.{count-read, records-count}
 
 -- ---- a section's records
 

@@ -12,8 +12,8 @@ use case_text::output::echo;
 use case_text::output::print;
 use case_text::parse::find;
 use libc::STDIN_FILENO;
-use settings::read::Loaded;
-use settings::read::read;
+use reader::read::Loaded;
+use reader::read::read;
 use settings::reply::Reply;
 
 // Collects a line: the reader's answer, then what the writer does with the settings that came back. The writer should

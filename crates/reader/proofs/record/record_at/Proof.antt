@@ -1,0 +1,65 @@
+-- `reader::record::record_at` meets its contract: a record that is there whole is read as its form says. Assumes nothing.
+use borrow.Author.Needs.{needs}
+use Rattle.reader.specs.Record.{sizeOf}
+use mathlib.Core.Bool.{true}
+use lib.Dec.{leb}
+use denote.Ref.{now}
+use lib.ListN.{length}
+use Prim.Native.Nat.{_+_}
+use native.Mathlib.Omega.{arith}
+use mathlib.Core.Path.{_≡_, sym, ap, _∙_}
+use borrow.Author.Tests.{le-leb, leb-true, not-true, not-false}
+use Rattle.reader.specs.Record.{recordAt}
+use mathlib.Core.Path.{sym, _∙_}
+use borrow.Author.Tests.{leb-true, not-true, not-false}
+use Rattle.reader.proofs.record.record_at.Statement.{statement}
+use Rattle.reader.proofs.record.record_at.Tie as tie
+
+returns : tie.Need-returns
+unfolding recordAt
+returns c = c .refuse .ensures ∙ simp (← c .before .before .before .record-size .ensures, ← c .before .before .has .ensures, not-true (c .before .before .has .result) (c .before .if1 .taken))
+
+digital-record-requires : tie.Need-digital-record-requires
+digital-record-requires c κs =
+    let a = c .before .before .before .before .before .before .args in
+    let size = c .before .before .before .before .record-size in
+    let has = c .before .before .before .has in
+    let n = size .ensures ∙ ap sizeOf (c .enum-told .given .1) in
+    let h : leb (a .at + size .result) (length (now (a .image))) ≡ true =
+    sym (has .ensures) ∙ not-false (has .result) (c .before .before .if1 .left)
+    in
+    omega (arith, leb-true (a .at + size .result) (length (now (a .image))) h)
+
+analog-record-requires : tie.Need-analog-record-requires
+analog-record-requires c κs =
+    let a = c .before .before .before .before .before .before .args in
+    let size = c .before .before .before .before .record-size in
+    let has = c .before .before .before .has in
+    let n = size .ensures ∙ ap sizeOf (c .enum-told2 .given .1) in
+    let h : leb (a .at + size .result) (length (now (a .image))) ≡ true =
+    sym (has .ensures) ∙ not-false (has .result) (c .before .before .if1 .left)
+    in
+    omega (arith, leb-true (a .at + size .result) (length (now (a .image))) h)
+
+returns-2 : tie.Need-returns-2
+unfolding recordAt
+returns-2 c = simp (c .before .enum-told .given .1, le-leb _ _ (digital-record-requires (c .before) (c .digital-record .lifetimes)), ← c .digital-record .ensures)
+
+returns-3 : tie.Need-returns-3
+unfolding recordAt
+returns-3 c = simp (c .before .enum-told2 .given .1, le-leb _ _ (analog-record-requires (c .before) (c .analog-record .lifetimes)), ← c .analog-record .ensures)
+
+pub record-at-spec : {M : Type 1} → statement M
+record-at-spec =
+    tie.close
+    (tie.spec
+    (λ c κs. search needs)
+    (λ c κs. search needs)
+    (λ c κs. search needs)
+    returns
+    (λ c. search needs)
+    digital-record-requires
+    (λ c. search needs)
+    analog-record-requires
+    returns-2
+    returns-3)

@@ -1,0 +1,4 @@
+pub mod Count
+pub mod Record
+pub mod Section
+pub mod Read

@@ -1,0 +1,30 @@
+// The count byte in front of a section.
+ghost use mathlib.Core.Path.{_≡_};
+ghost use Rattle.reader.specs.Count.{countAt};
+use settings::reply::Refusal;
+
+// How many alarms a section has and where its first record begins, or the refusal.
+pub enum Count {
+    Alarms(usize, usize),
+    Refused(Refusal),
+}
+
+pub fn count_at(image: &[u8], at: usize) -> Count
+    ensures { λ r. ⌜ r ≡ countAt (now (image .entry)) at ⌝ }
+{
+    if image.len() <= at {
+        return Count::Refused(Refusal {
+            number: 1,
+            place: at,
+        });
+    }
+    let n = image[at];
+    if n <= 12 {
+        Count::Alarms(n as usize, at + 1)
+    } else {
+        Count::Refused(Refusal {
+            number: 2,
+            place: at,
+        })
+    }
+}
