@@ -1,0 +1,4 @@
+pub mod Stores
+pub mod Joined
+pub mod Rewrites
+pub mod Replays

@@ -1,0 +1,52 @@
+// Sizes that a caller needs before it lends buffers.
+ghost use mathlib.Core.Path.{_≡_};
+ghost use Rattle.scan_record.specs.Check.{lengthOf};
+use scan_record::check::record_length;
+
+// Of these calls and their layouts.
+#[no_mangle]
+pub extern "C" fn meifgur_version() -> u32
+    ensures { λ r. ⌜ r ≡ 1 ⌝ }
+{
+    1
+}
+
+// Bytes of an event record (`length-event` of crates/event).
+#[no_mangle]
+pub extern "C" fn meifgur_event_size() -> u32
+    ensures { λ r. ⌜ r ≡ 16 ⌝ }
+{
+    16
+}
+
+// Bytes of events that always suffice for one scan (`enough` of crates/bank_history).
+#[no_mangle]
+pub extern "C" fn meifgur_events_enough() -> u32
+    ensures { λ r. ⌜ r ≡ 3840 ⌝ }
+{
+    3840
+}
+
+// Bytes of the longest settings image (`longest` of crates/image).
+#[no_mangle]
+pub extern "C" fn meifgur_image_most() -> u32
+    ensures { λ r. ⌜ r ≡ 842 ⌝ }
+{
+    842
+}
+
+// Bytes of an alarm's report (`length-report`).
+#[no_mangle]
+pub extern "C" fn meifgur_report_size() -> u32
+    ensures { λ r. ⌜ r ≡ 224 ⌝ }
+{
+    224
+}
+
+// Bytes of a scan record, for so many alarms of each kind.
+#[no_mangle]
+pub extern "C" fn meifgur_record_length(digital: usize, analog: usize) -> usize
+    ensures { λ r. ⌜ r ≡ lengthOf digital analog ⌝ }
+{
+    record_length(digital, analog)
+}
