@@ -87,11 +87,10 @@ pub fn record_length(digital: usize, analog: usize) -> usize {
     unsafe { raw::meifgur_record_length(digital, analog) }
 }
 
-/// Checks a settings image and writes it back to the front of `out`. A refusal leaves `out`.
-pub fn rewrite(image: &[u8], out: &mut [u8]) -> Result<Rewritten, Error> {
-    let mut answer = [0u64; 5];
+/// `meifgur_rewrite` as the header has it: the return code, and the answer's words in a buffer of any length.
+pub fn rewrite_words(image: &[u8], out: &mut [u8], answer: &mut [u64]) -> u32 {
     // Sound: each pointer has its slice's length, and `&mut` keeps the slices apart.
-    let code = unsafe {
+    unsafe {
         raw::meifgur_rewrite(
             image.as_ptr(),
             image.len(),
@@ -100,8 +99,38 @@ pub fn rewrite(image: &[u8], out: &mut [u8]) -> Result<Rewritten, Error> {
             answer.as_mut_ptr(),
             answer.len(),
         )
-    };
-    match code {
+    }
+}
+
+/// `meifgur_replay` as the header has it: the return code, and the answer's words in a buffer of any length.
+pub fn replay_words(
+    image: &[u8],
+    records: &[u8],
+    events: &mut [u8],
+    reports: &mut [u8],
+    answer: &mut [u64],
+) -> u32 {
+    // Sound: as in `rewrite_words`.
+    unsafe {
+        raw::meifgur_replay(
+            image.as_ptr(),
+            image.len(),
+            records.as_ptr(),
+            records.len(),
+            events.as_mut_ptr(),
+            events.len(),
+            reports.as_mut_ptr(),
+            reports.len(),
+            answer.as_mut_ptr(),
+            answer.len(),
+        )
+    }
+}
+
+/// Checks a settings image and writes it back to the front of `out`. A refusal leaves `out`.
+pub fn rewrite(image: &[u8], out: &mut [u8]) -> Result<Rewritten, Error> {
+    let mut answer = [0u64; 5];
+    match rewrite_words(image, out, &mut answer) {
         0 => Ok(Rewritten {
             length: answer[2] as usize,
             digital: answer[3] as usize,
@@ -120,22 +149,7 @@ pub fn replay(
     reports: &mut [u8],
 ) -> Result<Replayed, Error> {
     let mut answer = [0u64; 8];
-    // Sound: as in `rewrite`.
-    let code = unsafe {
-        raw::meifgur_replay(
-            image.as_ptr(),
-            image.len(),
-            records.as_ptr(),
-            records.len(),
-            events.as_mut_ptr(),
-            events.len(),
-            reports.as_mut_ptr(),
-            reports.len(),
-            answer.as_mut_ptr(),
-            answer.len(),
-        )
-    };
-    match code {
+    match replay_words(image, records, events, reports, &mut answer) {
         0 => Ok(Replayed {
             events: answer[2] as usize,
             refused: answer[3],

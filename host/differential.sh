@@ -1,0 +1,25 @@
+#!/bin/sh
+# Random lists of scans through the archive and through the second opinion; every byte must agree.
+#
+#   host/differential.sh [LISTS] [SEED] [FIRST]
+#
+# LISTS: how many (1000000). SEED: what makes them (the clock). FIRST: number of the first (0).
+# Ends with 0 if all agree; with 1 and a case made small if two answers differ.
+set -eu
+cd "$(dirname "$0")/.."
+
+# The prover says much; it is shown where it fails.
+if ! said=$(rt staticlib meifgur_c 2>&1); then
+    printf '%s\n' "$said" >&2
+    echo "host/differential.sh: FAILED: no archive" >&2
+    exit 1
+fi
+if ! CARGO_TARGET_DIR=target/differential cargo build --release --quiet --offline --locked \
+    --manifest-path host/differential/Cargo.toml; then
+    echo "host/differential.sh: FAILED: host/differential does not build" >&2
+    exit 1
+fi
+if ! target/differential/release/differential "$@"; then
+    echo "host/differential.sh: FAILED" >&2
+    exit 1
+fi
