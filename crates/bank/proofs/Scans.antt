@@ -1,8 +1,8 @@
 -- Laws of a scan of a bank, by what its parts worked out. Assumes nothing.
-use mathlib.Core.Path.{_≡_, refl, sym, ap, _∙_}
-use mathlib.Core.Bool.{Bool, true, false, cond}
+use mathlib.Core.Path.{_≡_, sym, ap, _∙_}
+use mathlib.Core.Bool.{true, false}
 use mathlib.Core.List.{List, _++_}
-use Prim.Native.Nat.{ℕ, _+_, _*_, _≤_, _<_}
+use Prim.Native.Nat.{ℕ, _*_, _≤_, _<_}
 use native.Mathlib.Nat.{zero-add}
 use native.Mathlib.Omega.{arith}
 use borrow.Author.Tests.{lt-ltb, le-ltb}
@@ -19,7 +19,7 @@ use Rattle.steps.specs.Plan.{planOf, countOf, eventsUpTo}
 use Rattle.steps.specs.declared.plan.Plan.{Plan}
 use Rattle.steps.proofs.Logs.{log-length, up-to-count}
 use Rattle.steps.proofs.Counts.{word-small}
-use Rattle.bank.specs.Scan.{checkOf, alarmsOf, planFor, eventsIn, bankAfter, tooShort, refusedScan, checkedScan, checkedBuffer, scanOf, bufferOf}
+use Rattle.bank.specs.Scan.{checkOf, alarmsOf, planFor, eventsIn, tooShort, refusedScan, checkedScan, checkedBuffer, scanOf, bufferOf}
 use Rattle.bank.specs.declared.bank.Bank.{Bank}
 use Rattle.bank.specs.declared.scan.Scanned.{Scanned}
 use Rattle.bank.specs.declared.scan.Answer.the-variants.{Events}

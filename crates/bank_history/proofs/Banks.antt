@@ -1,6 +1,6 @@
 -- What a bank keeps is what settings and accepted records say: a fresh bank, and one more record. Assumes nothing.
 use mathlib.Core.Path.{_≡_, refl, sym, ap, fun-ext, subst, _∙_}
-use mathlib.Core.Bool.{Bool, true, false, cond}
+use mathlib.Core.Bool.{Bool, false}
 use mathlib.Core.List.{List, [], _∷_, map}
 use Prim.Native.Nat.{ℕ, zero, suc, _+_, _*_, _≤_, _<_}
 use native.Mathlib.Omega.{arith}
@@ -8,7 +8,7 @@ use borrow.Author.Tests.{lt-ltb, le-ltb}
 use lib.Ieee.{Float}
 use lib.ListN.{length, getD, replicate, length-replicate, getD-replicate}
 use Rattle.wire.specs.Bits.{bit}
-use Rattle.condition.specs.Mark.{Marks, marksAfter, timeStampAfter, noMarks}
+use Rattle.condition.specs.Mark.{marksAfter, timeStampAfter, noMarks}
 use Rattle.settings.specs.Alarm.{blank}
 use Rattle.settings.specs.Sound.{Sound}
 use Rattle.settings.specs.declared.types.Alarm.{Alarm}
@@ -17,31 +17,28 @@ use Rattle.settings.specs.declared.types.Limits.{Limits}
 use Rattle.settings.specs.declared.types.Severities.{Severities}
 use Rattle.settings.specs.declared.types.Kind.{Kind}
 use Rattle.settings.specs.declared.types.Kind.the-variants.{Digital, Analog}
-use Rattle.settings.specs.declared.types.Form.the-variants.{Digital as DigitalForm, Analog as AnalogForm}
-use Rattle.settings.specs.declared.reply.Reply.the-variants.{Accepted}
+use Rattle.settings.specs.declared.types.Form.the-variants.{Digital as DigitalForm}
 use Rattle.image.specs.Accepted.{AcceptedFrom}
 use Rattle.alarm.specs.Held.{freshState, lookDigital, lookAnalog, runOf, cellOf, Six, HH, H, L, LL, ROCPos, ROCNeg, Side, High, Low, place}
-use Rattle.alarm.specs.Digital.{digitalRequired, digitalStep}
-use Rattle.alarm.specs.Analog.{analogRequired, analogStep}
+use Rattle.alarm.specs.Digital.{digitalStep}
+use Rattle.alarm.specs.Analog.{analogStep}
 use Rattle.alarm.specs.Step.{stepKind}
 use Rattle.alarm.specs.declared.state.State.{State}
 use Rattle.alarm.specs.declared.state.Stepped.{Stepped}
 use Rattle.alarm_history.specs.Scans.{Scan}
-use Rattle.alarm_history.specs.After.{freshDigital, freshAnalog, digitalRun, analogRun, digitalMarks, analogMarks}
+use Rattle.alarm_history.specs.After.{freshAnalog, digitalRun, analogRun, digitalMarks, analogMarks}
 use Rattle.alarm_history.specs.Elapsed.{resetStamp}
-use Rattle.scan_record.specs.Part.{timeOf, offsetOf, readingAt, wordAt}
-use Rattle.scan_record.specs.Check.{formAt}
-use Rattle.scan_record.proofs.Entries.{accepted-says}
-use Rattle.marks.specs.Marks.{marksAt, startAt, requiredOf, markAlarms}
+use Rattle.scan_record.specs.Part.{timeOf}
+use Rattle.marks.specs.Marks.{marksAt, startAt, requiredOf}
 use Rattle.marks.proofs.Reading.{marks-length, mark-read, reset-read}
-use Rattle.steps.specs.Plan.{stepPart, stepAt, placed, planOf}
+use Rattle.steps.specs.Plan.{stepPart, stepAt, planOf}
 use Rattle.steps.proofs.Alarms.{length-placed, placed-below}
 use Rattle.steps.proofs.Counts.{word-at}
 use Rattle.bank.specs.Bank.{freshBank}
-use Rattle.bank.specs.Scan.{checkOf, alarmsOf, planFor, bankAfter}
+use Rattle.bank.specs.Scan.{alarmsOf, planFor, bankAfter}
 use Rattle.bank.specs.declared.bank.Bank.{Bank}
 use Rattle.bank_history.specs.Scans.{digitalScan, analogScan}
-use Rattle.bank_history.proofs.Views.{DigitalView, digital-view, AnalogView, analog-view, marksBy}
+use Rattle.bank_history.proofs.Views.{DigitalView, digital-view, AnalogView, analog-view}
 
 -- the time of the last record
 abbrev pub lastOf : List (List ℕ) → ℕ

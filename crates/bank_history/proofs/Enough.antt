@@ -1,6 +1,6 @@
 -- How long an event buffer must be: 12 exactly where it is shorter than the events, and 3,840 bytes always suffice. Assumes nothing.
-use mathlib.Core.Path.{_≡_, refl, sym, ap, _∙_}
-use mathlib.Core.Bool.{Bool, true, false, cond}
+use mathlib.Core.Path.{_≡_, refl, ap, _∙_}
+use mathlib.Core.Bool.{Bool, true, false}
 use mathlib.Core.List.{List, [], _∷_}
 use Prim.Native.Nat.{ℕ, zero, suc, _+_, _-_, _*_, _/_, _%_, _≤_, _<_, min}
 use native.Mathlib.Omega.{arith}
@@ -12,7 +12,6 @@ use lib.ListN.{length, getD}
 use Rattle.wire.specs.Bits.{wordOf}
 use Rattle.settings.specs.Reply.{refusal}
 use Rattle.settings.specs.declared.reply.Reply.the-variants.{Accepted}
-use Rattle.settings.specs.declared.types.Alarm.{Alarm}
 use Rattle.settings.specs.declared.types.Kind.{Kind}
 use Rattle.settings.specs.declared.types.Kind.the-variants.{Digital, Analog}
 use Rattle.alarm.specs.Held.{lookDigital, lookAnalog}
@@ -27,9 +26,8 @@ use Rattle.scan_record.specs.Part.{timeOf}
 use Rattle.steps.specs.Plan.{stepPart, stepAt, countOf}
 use Rattle.steps.proofs.Logs.{up-to-count}
 use Rattle.steps.proofs.Counts.{word-at, word-small}
-use Rattle.bank.specs.Scan.{checkOf, alarmsOf, planFor, eventsIn, bankAfter, tooShort, refusedScan, checkedScan, scanOf}
+use Rattle.bank.specs.Scan.{checkOf, alarmsOf, planFor, eventsIn, bankAfter, refusedScan, checkedScan, scanOf}
 use Rattle.bank.specs.declared.bank.Bank.{Bank}
-use Rattle.bank.specs.declared.scan.Scanned.{Scanned}
 use Rattle.bank.specs.declared.scan.Answer.the-variants.{Events}
 use Rattle.bank.proofs.Scans.{accepted-scan}
 use Rattle.bank_history.proofs.Banks.{Kept, alarmAt, digital-kind}

@@ -12,8 +12,6 @@ use Rattle.alarm_history.specs.Scans.{lastTime}
 use Rattle.alarm_history.specs.Report.{alarmStamp, ackStamp, returnStamp}
 use Rattle.level.specs.Level.{zero}
 use Rattle.report.specs.Status.{noStatus}
-use Rattle.report.specs.declared.status.Status.{Status}
-use Rattle.report.specs.declared.whole.Whole.{Whole}
 use Rattle.bank_history.specs.Said.{saidKind}
 
 scan : ℕ → ℕ → ℕ → List ℕ

@@ -3,8 +3,7 @@ use mathlib.Core.Path.{_≡_, refl, sym, ap, ap₂, _∙_}
 use mathlib.Core.Bool.{Bool, true, false, not}
 use mathlib.Core.List.{List, [], _∷_, map}
 use mathlib.Core.Logic.{_⊎_, inl, inr}
-use Prim.Native.Nat.{ℕ, _+_, _*_, _≤_, _<_}
-use native.Mathlib.Omega.{arith}
+use Prim.Native.Nat.{ℕ, _*_, _≤_, _<_}
 use lib.Dec.{ltb}
 use lib.ListN.{getD}
 use lib.Ieee.{Float}
@@ -18,25 +17,23 @@ use Rattle.settings.specs.declared.types.Limits.{Limits}
 use Rattle.settings.specs.declared.types.Severities.{Severities}
 use Rattle.settings.specs.declared.types.Kind.{Kind}
 use Rattle.settings.specs.declared.types.Kind.the-variants.{Digital, Analog}
-use Rattle.settings.specs.declared.types.Form.the-variants.{Digital as DigitalForm, Analog as AnalogForm}
+use Rattle.settings.specs.declared.types.Form.the-variants.{Analog as AnalogForm}
 use Rattle.alarm.specs.Held.{DigitalHeld, lookDigital, Six, HH, H, L, LL, ROCPos, ROCNeg, place, AnalogHeld, lookAnalog}
 use Rattle.alarm.specs.declared.state.State.{State}
 use Rattle.alarm_history.specs.Scans.{Scan, latest}
 use Rattle.alarm_history.specs.Digital.{In, digitalFacts}
 use Rattle.alarm_history.specs.Analog.{analogFacts}
-use Rattle.alarm_history.specs.After.{digitalRun, digitalFrom, digitalMarks, analogRun, analogFrom, analogMarks}
+use Rattle.alarm_history.specs.After.{digitalFrom}
 use Rattle.alarm_history.specs.Report.{marksIn}
 use Rattle.alarm_history.proofs.Digital.{digital-run, digital-report, digital-demand}
 use Rattle.alarm_history.proofs.Analog.{analog-run, analog-report, analog-demand}
 use Rattle.alarm_history.proofs.Elapsed.{digital-reset-stamp, analog-reset-stamp}
-use Rattle.marks.specs.Marks.{marksAt}
 use Rattle.bank.specs.Scan.{alarmsOf}
 use Rattle.bank.specs.declared.bank.Bank.{Bank}
-use Rattle.report.specs.Status.{noStatus, statusAt, digitalStatuses, analogStatuses, statusesOf}
+use Rattle.report.specs.Status.{noStatus, digitalStatuses, analogStatuses, statusesOf}
 use Rattle.report.specs.Whole.{digitalWhole, analogWhole, wholeKind, wholeOf}
 use Rattle.report.specs.Report.{reportAt}
 use Rattle.report.specs.declared.status.Status.{Status}
-use Rattle.report.specs.declared.whole.Whole.{Whole}
 use Rattle.report.specs.declared.report.AlarmReport.{AlarmReport}
 use Rattle.report.proofs.Reports.{status-digital, status-analog}
 use Rattle.bank_history.specs.Scans.{digitalScan, analogScan}

@@ -1,23 +1,23 @@
 -- What a bank keeps of an alarm is what its scans say: one scan. Assumes nothing.
-use mathlib.Core.Path.{_≡_, refl, sym, ap, ap₂, _∙_}
+use mathlib.Core.Path.{_≡_, refl, ap, ap₂, _∙_}
 use mathlib.Core.Bool.{Bool, false}
-use mathlib.Core.List.{List, [], _∷_}
+use mathlib.Core.List.{List, _∷_}
 use Prim.Native.Nat.{ℕ, _+_, _*_}
 use lib.ListN.{getD}
 use lib.Ieee.{Float}
-use Rattle.wire.specs.Bits.{bit, wordOf}
+use Rattle.wire.specs.Bits.{bit}
 use Rattle.wire.proofs.WordLaws.{bit-word}
 use Rattle.condition.specs.Command.{countResets}
 use Rattle.condition.specs.Mark.{Marks, marksAfter, timeStampAfter}
 use Rattle.settings.specs.declared.types.Limits.{Limits}
-use Rattle.alarm.specs.Held.{DigitalHeld, lookDigital, hideDigital, Six, HH, H, L, LL, ROCPos, ROCNeg, place, AnalogHeld, lookAnalog, hideAnalog}
+use Rattle.alarm.specs.Held.{DigitalHeld, lookDigital, Six, HH, H, L, LL, ROCPos, ROCNeg, place, AnalogHeld, lookAnalog}
 use Rattle.alarm.specs.Digital.{digitalRequired, digitalAfter, digitalEvents, digitalStep}
 use Rattle.alarm.specs.Analog.{analogRequired, analogAfter, analogEvents, analogStep}
 use Rattle.alarm.specs.declared.state.State.{State}
 use Rattle.alarm.specs.declared.state.Stepped.{Stepped}
 use Rattle.alarm.proofs.Laws.{look-digital, look-analog}
 use Rattle.alarm_history.specs.Scans.{Scan}
-use Rattle.alarm_history.specs.After.{freshDigital, freshAnalog, digitalRun, analogRun, digitalMarksAfter, digitalMarks, analogMarksAfter, analogMarks}
+use Rattle.alarm_history.specs.After.{digitalRun, analogRun, digitalMarksAfter, digitalMarks, analogMarksAfter, analogMarks}
 use Rattle.alarm_history.specs.Elapsed.{resetStamp}
 use Rattle.marks.specs.Marks.{marksAt, startAt}
 

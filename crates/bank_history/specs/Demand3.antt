@@ -10,7 +10,6 @@ use lib.Pow.{areBytes}
 use Rattle.history.specs.Words.{Demand3}
 use Rattle.settings.specs.Alarm.{blank}
 use Rattle.reader.specs.Read.{readOf}
-use Rattle.settings.specs.declared.types.Alarm.{Alarm}
 use Rattle.settings.specs.declared.types.Kind.{Kind}
 use Rattle.settings.specs.declared.types.Kind.the-variants.{Digital, Analog}
 use Rattle.settings.specs.declared.reply.Reply.the-variants.{Accepted}

@@ -1,11 +1,9 @@
 -- How many events a scan has, by its event words. Assumes nothing.
-use mathlib.Core.Path.{_≡_, refl, sym, ap, _∙_}
-use mathlib.Core.Bool.{Bool, true, false, cond}
-use mathlib.Core.List.{List, [], _∷_}
-use Prim.Native.Nat.{ℕ, _+_, _*_, _^_, _≤_, _<_}
+use mathlib.Core.Path.{_≡_}
+use mathlib.Core.List.{List}
+use Prim.Native.Nat.{ℕ, _^_, _≤_, _<_}
 use native.Mathlib.Omega.{arith}
-use lib.ListN.{length, getD, replicate}
-use Rattle.wire.specs.Bits.{wordOf}
+use lib.ListN.{getD, replicate}
 use Rattle.wire.proofs.WordLaws.{word-lt}
 use Rattle.settings.specs.declared.types.Alarm.{Alarm}
 use Rattle.settings.specs.declared.types.Kind.{Kind}
@@ -13,11 +11,11 @@ use Rattle.settings.specs.declared.types.Kind.the-variants.{Digital, Analog}
 use Rattle.alarm.specs.Held.{lookDigital, lookAnalog}
 use Rattle.alarm.specs.Digital.{digitalEvents, digitalStep}
 use Rattle.alarm.specs.Analog.{analogEvents, analogStep}
-use Rattle.alarm.specs.Step.{stepKind, stepOf}
+use Rattle.alarm.specs.Step.{stepKind}
 use Rattle.alarm.specs.declared.state.State.{State}
 use Rattle.alarm.specs.declared.step.Reading.{Reading}
 use Rattle.alarm.specs.declared.step.Reading.the-variants.{Digital as Bit, Level}
-use Rattle.steps.specs.Plan.{stepPart, stepAt, planOf, placed}
+use Rattle.steps.specs.Plan.{stepPart, stepAt, planOf}
 use Rattle.steps.proofs.Alarms.{placed-below}
 
 -- an event word has 24 bits

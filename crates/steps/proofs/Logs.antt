@@ -2,23 +2,27 @@
 use mathlib.Core.Path.{_≡_, refl, sym, ap, _∙_}
 use mathlib.Core.Bool.{Bool, true, false, cond}
 use mathlib.Core.List.{List, [], _∷_, _++_, append-assoc}
-use Prim.Native.Nat.{ℕ, zero, suc, _+_, _-_, _*_, _/_, _%_, _^_, _≤_, _<_}
+use Prim.Native.Nat.{ℕ, zero, suc, _+_, _*_, _/_, _%_, _^_, _≤_, _<_}
 use native.Mathlib.Nat.{zero-add, le-refl, pow-succ'}
 use native.Mathlib.Numerals.{add-one}
 use native.Mathlib.Omega.{arith}
 use borrow.Author.Tests.{eqb-true, eqb-false}
 use lib.Dec.{eqb}
-use lib.Ieee.{nan}
+use lib.Ieee.{Float, nan}
 use lib.Count.{ones, ones-step, ones-le}
 use lib.ListN.{length, getD, length-append}
 use lib.Seq.{sets}
-use Rattle.wire.specs.Bits.{bit}
+use Rattle.wire.specs.Bits.{bit, wordOf}
+use Rattle.wire.proofs.WordLaws.{word-low, word-rest}
 use Rattle.wire.proofs.Laws.{sets-append, getD-within}
 use Rattle.settings.specs.Alarm.{blank}
 use Rattle.settings.specs.declared.types.Alarm.{Alarm}
 use Rattle.settings.specs.declared.types.Kind.{Kind}
-use Rattle.alarm.specs.Held.{freshState}
-use Rattle.alarm.specs.Events.{Event, eventAt}
+use Rattle.settings.specs.declared.types.Limits.{Limits}
+use Rattle.alarm.specs.Held.{freshState, lookDigital, lookAnalog}
+use Rattle.alarm.specs.Digital.{digitalEvents, digitalStep}
+use Rattle.alarm.specs.Analog.{analogEvents, analogStep}
+use Rattle.alarm.specs.Events.{Event, eventAt, eventsFrom}
 use Rattle.alarm.specs.declared.state.State.{State}
 use Rattle.event.specs.Record.{eventBytes, logBytes, eventsOf}
 use Rattle.event.proofs.Stores.{length-event}
@@ -62,6 +66,17 @@ module _ (alarm : ℕ) (kind : Kind) (suppressed : Bool) (time : ℕ) where
           → length (cond b (e ∷ eventsOf alarm kind suppressed time n (suc k) (word / 2)) (eventsOf alarm kind suppressed time n (suc k) (word / 2))) ≡ ones word
       go true x e rest = omega (arith, eqb-true (word % 2) 1 e, ones-step word, rest)
       go false x e rest = let z : word % 2 ≡ 0 = even word (eqb-false (word % 2) 1 e) in omega (arith, ones-step word, rest)
+
+  -- the events of a word made of bits are those of the bits, as the marked cases are checked
+  pub events-bits : (n k : ℕ) (bs : List Bool) → length bs ≤ n → eventsOf alarm kind suppressed time n k (wordOf bs) ≡ eventsFrom alarm kind suppressed time k bs
+  unfolding eventsOf eventsFrom wordOf
+  events-bits n k [] h = no-events n k
+  events-bits zero k (b ∷ bs) h = absurd (omega arith)
+  events-bits (suc n) k (b ∷ bs) h = go (events-bits n (suc k) bs (omega arith))
+    where
+      go : eventsOf alarm kind suppressed time n (suc k) (wordOf bs) ≡ eventsFrom alarm kind suppressed time (suc k) bs
+          → eventsOf alarm kind suppressed time (suc n) k (wordOf (b ∷ bs)) ≡ eventsFrom alarm kind suppressed time k (b ∷ bs)
+      go ih = rw (word-low b bs refl, word-rest b bs refl, ih)
 
 -- ---- all alarms
 
@@ -128,3 +143,20 @@ module _ (alarms : List Alarm) (states : List State) (events : List ℕ) (time :
         up-to-count n (λ i l. h i (omega arith)),
         events-ones (suc n) (getD alarms n blank .kind) (bit (getD states n freshState .flags) 1) time 24 0 (getD events n 0) (h n (omega arith)),
       )
+
+-- ---- the events of an alarm's step, as the marked cases have them
+
+module _ (number : ℕ) (a : Alarm) (s after : State) (flags duration word time : ℕ) where
+  pub digital-log : (input : Bool)
+      → alarmEvents number a after (digitalStep flags duration s input word time .events) time
+      ≡ eventsFrom number (a .kind) (bit (after .flags) 1) time 0 (digitalEvents flags duration input word time (lookDigital s))
+  unfolding digitalStep
+  digital-log input =
+      events-bits number (a .kind) (bit (after .flags) 1) time 24 0 (digitalEvents flags duration input word time (lookDigital s)) (omega arith)
+
+  pub analog-log : (g : Limits) (period : ℕ) (x : Float)
+      → alarmEvents number a after (analogStep flags duration g period s x word time .events) time
+      ≡ eventsFrom number (a .kind) (bit (after .flags) 1) time 0 (analogEvents flags duration g period x word time (lookAnalog s))
+  unfolding analogStep
+  analog-log g period x =
+      events-bits number (a .kind) (bit (after .flags) 1) time 24 0 (analogEvents flags duration g period x word time (lookAnalog s)) (omega arith)

@@ -1,6 +1,5 @@
 -- `bank_cases::load_bank` is safe: `put_image` answers at most 1,024, so the part that is read has as many bytes. Assumes nothing.
 use borrow.Author.Needs.{needs}
-use Prim.Native.Nat.{_-_}
 use mathlib.Core.Path.{sym}
 use lib.Seq.{length-take-le}
 use Rattle.bank_cases.proofs.load_bank.Statement.{statement}

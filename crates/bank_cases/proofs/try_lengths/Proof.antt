@@ -1,6 +1,5 @@
 -- `bank_cases::try_lengths` is safe: `put_record` answers at most 1,024, so the part that is run has as many bytes. Assumes nothing.
 use borrow.Author.Needs.{needs}
-use Prim.Native.Nat.{_-_}
 use mathlib.Core.Path.{sym}
 use lib.Seq.{length-take-le}
 use Rattle.bank_cases.proofs.try_lengths.Statement.{statement}

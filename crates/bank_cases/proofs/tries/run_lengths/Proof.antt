@@ -1,6 +1,5 @@
 -- `bank_cases::tries::run_lengths` is safe: the events are at most 3,840 bytes, so the part with them has as many. Assumes nothing.
 use borrow.Author.Needs.{needs}
-use Prim.Native.Nat.{_-_}
 use mathlib.Core.Path.{sym}
 use lib.Seq.{length-take-le}
 use Rattle.bank_cases.proofs.tries.run_lengths.Statement.{statement}

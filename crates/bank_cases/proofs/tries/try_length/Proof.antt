@@ -1,6 +1,5 @@
 -- `bank_cases::tries::try_length` is safe: the size is at most 4,096, so the lent part has that size. Assumes nothing.
 use borrow.Author.Needs.{needs}
-use Prim.Native.Nat.{_-_}
 use mathlib.Core.Path.{sym}
 use lib.Seq.{length-take-le}
 use Rattle.bank_cases.proofs.tries.try_length.Statement.{statement}

@@ -1,6 +1,5 @@
 -- `call_text::record::put_part` meets its contract: the reading is the part up to the slash, or all of it. Assumes nothing.
 use borrow.Author.Needs.{needs}
-use Prim.Native.Nat.{_-_}
 use mathlib.Core.Path.{sym}
 use lib.Seq.{length-take-le}
 use Rattle.call_text.proofs.record.put_part.Statement.{statement}

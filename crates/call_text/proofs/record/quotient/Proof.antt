@@ -1,6 +1,5 @@
 -- `call_text::record::quotient` is safe: a cast of at most 2 ^ 24 loses nothing. Assumes nothing.
 use borrow.Author.Needs.{needs}
-use native.Mathlib.Omega.{arith}
 use lib.Dec.{le→leb}
 use lib.Ieee.{inFloat}
 use Rattle.call_text.proofs.record.quotient.Statement.{statement}

@@ -1,7 +1,7 @@
 -- `scan_record::check::check_record` meets its contract: each return takes the case that its tests led to. Assumes nothing.
 use borrow.Author.Needs.{needs}
 use borrow.Author.Tests.{le-ltb, lt-ltb, not-true, not-false}
-use mathlib.Core.Path.{_≡_, refl, sym, ap, _∙_}
+use mathlib.Core.Path.{sym, _∙_}
 use native.Mathlib.Omega.{arith}
 use Rattle.scan_record.specs.Check.{checkRecord}
 use Rattle.scan_record.proofs.Entries.{whole-says}

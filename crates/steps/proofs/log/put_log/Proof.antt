@@ -1,6 +1,6 @@
 -- `steps::log::put_log` meets its contract: the invariant: the records of the alarms so far stand in front, and this alarm's begin here. The measure is the alarms left. Assumes nothing.
 use borrow.Author.Needs.{needs}
-use mathlib.Core.Path.{_≡_, refl, sym, ap, _∙_}
+use mathlib.Core.Path.{_≡_, refl, ap, _∙_}
 use Prim.Native.Nat.{ℕ, _+_, _-_, _≤_}
 use native.Mathlib.Omega.{arith}
 use denote.Ref.{now}

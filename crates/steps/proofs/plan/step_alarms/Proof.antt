@@ -1,7 +1,7 @@
 -- `steps::plan::step_alarms` meets its contract: the invariant: the alarms before this place are stepped, and this alarm's part begins here. The measure is the alarms left. Assumes nothing.
 use borrow.Author.Needs.{needs}
-use mathlib.Core.Path.{_≡_, refl, sym, ap, _∙_}
-use Prim.Native.Nat.{ℕ, _+_, _-_, _≤_, _<_}
+use mathlib.Core.Path.{_≡_, refl, ap, _∙_}
+use Prim.Native.Nat.{ℕ, _+_, _-_, _≤_}
 use native.Mathlib.Omega.{arith}
 use denote.Ref.{now}
 use lib.ListN.{replicate}
