@@ -1,7 +1,7 @@
 // Scans with lent buffers.
 ghost use Prim.Native.Nat.{_≤_};
 use bank::bank::Bank;
-use bank::scan::Answer;
+use bank::parts::Answer;
 use bank::scan::scan;
 use bank_text::same::is_same;
 use call_text::lent::changed_from;

@@ -28,7 +28,7 @@ use Rattle.steps.proofs.Logs.{up-to-count}
 use Rattle.steps.proofs.Counts.{word-at, word-small}
 use Rattle.bank.specs.Scan.{checkOf, alarmsOf, planFor, eventsIn, bankAfter, refusedScan, checkedScan, scanOf}
 use Rattle.bank.specs.declared.bank.Bank.{Bank}
-use Rattle.bank.specs.declared.scan.Answer.the-variants.{Events}
+use Rattle.bank.specs.declared.parts.Answer.the-variants.{Events}
 use Rattle.bank.proofs.Scans.{accepted-scan}
 use Rattle.bank_history.proofs.Banks.{Kept, alarmAt, digital-kind}
 

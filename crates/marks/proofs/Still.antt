@@ -1,15 +1,17 @@
 -- A scan without events marks nothing. Assumes nothing.
 use mathlib.Core.Bool.{Bool, false}
 use mathlib.Core.List.{List}
-use mathlib.Core.Path.{_≡_, refl}
-use Prim.Native.Nat.{ℕ, zero, suc}
+use mathlib.Core.Path.{_≡_, refl, _∙_}
+use Prim.Native.Nat.{ℕ, zero, suc, _*_, _<_}
 use native.Mathlib.Nat.{zero-div}
+use native.Mathlib.Omega.{arith}
 use native.Mathlib.Numerals.{add-one, add-two, add-three}
 use lib.ListN.{getD, set}
 use lib.Seq.{set-getD}
 use Rattle.wire.specs.Bits.{bit}
+use Rattle.settings.specs.declared.types.Alarm.{Alarm}
 use Rattle.alarm.specs.declared.state.State.{State}
-use Rattle.marks.specs.Marks.{markCondition, markConditions, markAlarm}
+use Rattle.marks.specs.Marks.{markCondition, markConditions, markAlarm, markAlarms}
 
 -- four words stored where they stand
 words-still : (xs : List ℕ) (at : ℕ)
@@ -31,3 +33,10 @@ conditions-still required s time base (suc n) xs = simp (bit-none, condition-sti
 pub alarm-still : (required : Bool) (s : State) (time at : ℕ) (xs : List ℕ) {word : ℕ} → word ≡ 0 → markAlarm required s word time at xs ≡ xs
 unfolding markAlarm
 alarm-still required s time at xs e = rw e (simp (bit-none, conditions-still, set-getD))
+
+pub alarms-still : (alarms : List Alarm) (states : List State) (events : List ℕ) (time n : ℕ) (xs : List ℕ)
+    → ((i : ℕ) → i < n → getD events i 0 ≡ 0) → markAlarms alarms states events time n xs ≡ xs
+unfolding markAlarms
+alarms-still alarms states events time zero xs h = refl
+alarms-still alarms states events time (suc n) xs h =
+    alarm-still _ _ time (25 * n) _ (h n (omega arith)) ∙ alarms-still alarms states events time n xs (λ i l. h i (omega arith))

@@ -1,6 +1,6 @@
 // What a bank's calls answer, as lines.
 use bank::bank::Bank;
-use bank::scan::Answer;
+use bank::parts::Answer;
 use drive_text::lines::add_end;
 use drive_text::lines::add_events;
 use drive_text::lines::add_refusal;

@@ -14,10 +14,10 @@ use Rattle.scan_record.specs.Check.{recordSize, lengthOf}
 use Rattle.bank.specs.Scan.{scanOf, bufferOf}
 use Rattle.bank.specs.declared.bank.Bank.{Bank}
 use Rattle.bank.specs.declared.scan.Scanned.{Scanned}
-use Rattle.bank.specs.declared.scan.Answer.{Answer}
-use Rattle.bank.specs.declared.scan.Answer.the-variants.{Events, Refused}
+use Rattle.bank.specs.declared.parts.Answer.{Answer}
+use Rattle.bank.specs.declared.parts.Answer.the-variants.{Events, Refused}
 use Rattle.bank.proofs.Fits.{fits, buffer-length}
-use Rattle.replay.specs.Replay.{sizeFor, recordAt, recordsIn, start, byAnswer, Run, usedOf, leftOf, onward, runOf, replayOf}
+use Rattle.replay.specs.Replay.{sizeFor, recordAt, recordsIn, counted, tallyOf, start, byAnswer, Run, usedOf, leftOf, onward, runOf, replayOf}
 use Rattle.replay.specs.declared.replay.Replayed.{Replayed}
 
 -- a record has at least its time
@@ -70,6 +70,11 @@ module _ (d : Replayed) (buffer : List ℕ) (i : ℕ) (rec : List ℕ) where
   pub onward-done : {s : Scanned} {x : Answer} → s ≡ scanOf (d .bank) rec (length lent) → s .answer ≡ x → byAnswer d i (s .bank) x ≡ onward d buffer i rec .done
   unfolding onward
   onward-done e f = rw (← f, e, lent-all)
+
+  -- with that answer, the events still fit
+  pub answer-fits : {s : Scanned} → s ≡ scanOf (d .bank) rec (length lent) → 16 * d .events ≤ length buffer
+      → 16 * counted (tallyOf d) (s .answer) i .events ≤ length buffer
+  answer-fits e h = omega (arith, onward-fits h, ap (λ (r : Replayed). r .events) (onward-done e refl))
 
   pub onward-buffer : {ys : List ℕ} → ys ≡ bufferOf (d .bank) rec lent
       → usedOf d buffer ++ (ys ++ drop (length buffer - 16 * d .events) (leftOf d buffer)) ≡ onward d buffer i rec .buffer

@@ -4,13 +4,15 @@ use mathlib.Core.List.{List, _++_}
 use mathlib.Core.Bool.{cond}
 use lib.Dec.{eqb}
 use lib.ListN.{length, take, drop}
-use Rattle.settings.specs.declared.reply.Refusal.{Refusal}
+use Rattle.settings.specs.declared.types.Settings.{Settings}
+use Rattle.alarm.specs.declared.state.State.{State}
 use Rattle.scan_record.specs.Check.{lengthOf}
 use Rattle.bank.specs.Scan.{scanOf, bufferOf}
 use Rattle.bank.specs.declared.bank.Bank.{Bank}
-use Rattle.bank.specs.declared.scan.Answer.{Answer}
-use Rattle.bank.specs.declared.scan.Answer.the-variants.{Events, Refused}
+use Rattle.bank.specs.declared.parts.Answer.{Answer}
+use Rattle.bank.specs.declared.parts.Answer.the-variants.{Events, Refused}
 use Rattle.replay.specs.declared.replay.Replayed.{Replayed}
+use Rattle.replay.specs.declared.replay.Tally.{Tally}
 
 -- the length of a bank's records
 abbrev pub sizeFor : Bank → ℕ
@@ -25,37 +27,38 @@ abbrev pub recordsIn : ℕ → List ℕ → ℕ
 recordsIn size bytes = (length bytes + (size - 1)) / size
 
 -- before the first record
+abbrev pub noneYet : Tally
+noneYet = record { events = 0; refused = 0; number = 0; place = 0; index = 0 }
+
+-- after the answer to the record with index i: n more events, or a refusal, of which the first is kept
+abbrev pub counted : Tally → Answer → ℕ → Tally
+counted t (Events n) i = record { events = t .events + n; refused = t .refused; number = t .number; place = t .place; index = t .index }
+counted t (Refused r) i =
+    record {
+      events = t .events;
+      refused = t .refused + 1;
+      number = cond (eqb (t .refused) 0) (r .number) (t .number);
+      place = cond (eqb (t .refused) 0) (r .place) (t .place);
+      index = cond (eqb (t .refused) 0) i (t .index);
+    }
+
+-- a bank, and how its records were answered
+abbrev pub withBank : Bank → Tally → Replayed
+withBank b t = record { bank = b; events = t .events; refused = t .refused; number = t .number; place = t .place; index = t .index }
+
+abbrev pub tallyOf : Replayed → Tally
+tallyOf d = record { events = d .events; refused = d .refused; number = d .number; place = d .place; index = d .index }
+
+-- a bank from its parts
+abbrev pub bankIn : Settings → ℕ → List State → List ℕ → Bank
+bankIn settings time states marks = record { settings = settings; time = time; states = states; marks = marks }
+
 abbrev pub start : Bank → Replayed
-start b = record { bank = b; events = 0; refused = 0; number = 0; place = 0; index = 0 }
+start b = withBank b noneYet
 
--- after a scan that wrote n events and handed back bank b
-abbrev pub afterAccepted : Replayed → Bank → ℕ → Replayed
-afterAccepted d b n =
-    record {
-      bank = b;
-      events = d .events + n;
-      refused = d .refused;
-      number = d .number;
-      place = d .place;
-      index = d .index;
-    }
-
--- after a refused scan of the record with index i; the first refusal is kept
-abbrev pub afterRefused : Replayed → Bank → Refusal → ℕ → Replayed
-afterRefused d b r i =
-    record {
-      bank = b;
-      events = d .events;
-      refused = d .refused + 1;
-      number = cond (eqb (d .refused) 0) (r .number) (d .number);
-      place = cond (eqb (d .refused) 0) (r .place) (d .place);
-      index = cond (eqb (d .refused) 0) i (d .index);
-    }
-
--- after a scan, by its answer
+-- after a scan of the record with index i that handed back bank b
 abbrev pub byAnswer : Replayed → ℕ → Bank → Answer → Replayed
-byAnswer d i b (Events n) = afterAccepted d b n
-byAnswer d i b (Refused r) = afterRefused d b r i
+byAnswer d i b a = withBank b (counted (tallyOf d) a i)
 
 -- what is known after some records, and the event buffer then
 pub record Run : Type 0 where

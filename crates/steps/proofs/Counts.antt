@@ -1,10 +1,13 @@
 -- How many events a scan has, by its event words. Assumes nothing.
-use mathlib.Core.Path.{_≡_}
+use mathlib.Core.Path.{_≡_, refl}
 use mathlib.Core.List.{List}
-use Prim.Native.Nat.{ℕ, _^_, _≤_, _<_}
+use Prim.Native.Nat.{ℕ, zero, suc, _^_, _≤_, _<_}
 use native.Mathlib.Omega.{arith}
+use lib.Arith.{bin-ind}
+use lib.Count.{ones, ones-step}
 use lib.ListN.{getD, replicate}
 use Rattle.wire.proofs.WordLaws.{word-lt}
+use Rattle.wire.proofs.Laws.{below}
 use Rattle.settings.specs.declared.types.Alarm.{Alarm}
 use Rattle.settings.specs.declared.types.Kind.{Kind}
 use Rattle.settings.specs.declared.types.Kind.the-variants.{Digital, Analog}
@@ -15,7 +18,7 @@ use Rattle.alarm.specs.Step.{stepKind}
 use Rattle.alarm.specs.declared.state.State.{State}
 use Rattle.alarm.specs.declared.step.Reading.{Reading}
 use Rattle.alarm.specs.declared.step.Reading.the-variants.{Digital as Bit, Level}
-use Rattle.steps.specs.Plan.{stepPart, stepAt, planOf}
+use Rattle.steps.specs.Plan.{stepPart, stepAt, planOf, countOf}
 use Rattle.steps.proofs.Alarms.{placed-below}
 
 -- an event word has 24 bits
@@ -25,6 +28,16 @@ step-word (Digital severity) flags duration s (Bit input) word time = omega (ari
 step-word (Digital severity) flags duration s (Level x) word time = omega arith
 step-word (Analog g severities period) flags duration s (Bit input) word time = omega arith
 step-word (Analog g severities period) flags duration s (Level x) word time = omega (arith, word-lt (analogEvents flags duration g period x word time (lookAnalog s)))
+
+-- a word without bits is 0
+ones-none : (word : ℕ) → ones word ≡ 0 → word ≡ 0
+ones-none = bin-ind (λ (w : ℕ). ones w ≡ 0 → w ≡ 0) (λ h. refl) (λ w half h. let z = half (omega (arith, ones-step w)) in omega (arith, ones-step w))
+
+-- where no events were counted, no word has bits
+pub count-none : (events : List ℕ) (n i : ℕ) → countOf events n ≡ 0 → i < n → getD events i 0 ≡ 0
+unfolding countOf
+count-none events zero i h l = absurd (omega arith)
+count-none events (suc n) i h l = below (λ (k : ℕ). getD events k 0 ≡ 0) l (ones-none (getD events n 0) (omega arith)) (λ m. count-none events n i (omega arith) m)
 
 module _ (rec : List ℕ) (digital : ℕ) (alarms : List Alarm) (states : List State) (time : ℕ) where
   -- the event word of the alarm at a place

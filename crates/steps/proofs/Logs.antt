@@ -67,6 +67,17 @@ module _ (alarm : ℕ) (kind : Kind) (suppressed : Bool) (time : ℕ) where
       go true x e rest = omega (arith, eqb-true (word % 2) 1 e, ones-step word, rest)
       go false x e rest = let z : word % 2 ≡ 0 = even word (eqb-false (word % 2) 1 e) in omega (arith, ones-step word, rest)
 
+  -- no more events than bits
+  pub events-most : (n k word : ℕ) → length (eventsOf alarm kind suppressed time n k word) ≤ ones word
+  unfolding eventsOf
+  events-most zero k word = omega arith
+  events-most (suc n) k word = go (eqb (word % 2) 1) (eventAt alarm kind suppressed time k) refl (events-most n (suc k) (word / 2))
+    where
+      go : (b : Bool) (e : Event) → eqb (word % 2) 1 ≡ b → length (eventsOf alarm kind suppressed time n (suc k) (word / 2)) ≤ ones (word / 2)
+          → length (cond b (e ∷ eventsOf alarm kind suppressed time n (suc k) (word / 2)) (eventsOf alarm kind suppressed time n (suc k) (word / 2))) ≤ ones word
+      go true x e rest = omega (arith, eqb-true (word % 2) 1 e, ones-step word, rest)
+      go false x e rest = omega (arith, ones-step word, rest)
+
   -- the events of a word made of bits are those of the bits, as the marked cases are checked
   pub events-bits : (n k : ℕ) (bs : List Bool) → length bs ≤ n → eventsOf alarm kind suppressed time n k (wordOf bs) ≡ eventsFrom alarm kind suppressed time k bs
   unfolding eventsOf eventsFrom wordOf
@@ -131,6 +142,21 @@ module _ (alarms : List Alarm) (states : List State) (events : List ℕ) (time :
 
   pub sets-next : (out : List ℕ) (n : ℕ) → sets (sets out 0 (logTo n)) (length (logTo n)) (logBytes (here n)) ≡ sets out 0 (logTo (n + 1))
   sets-next out n = ap (λ (k : ℕ). sets (sets out 0 (logTo n)) k (logBytes (here n))) (sym (zero-add (length (logTo n)))) ∙ sets-append out 0 (logTo n) (logBytes (here n)) ∙ ap (sets out 0) (sym (log-next n))
+
+  -- no more events than bits
+  pub up-to-most : (n : ℕ) → length (eventsUpTo alarms states events time n) ≤ countOf events n
+  unfolding eventsUpTo countOf
+  up-to-most zero = omega arith
+  up-to-most (suc n) =
+      omega (
+        arith,
+        length-append (eventsUpTo alarms states events time n) (alarmEvents (suc n) (getD alarms n blank) (getD states n freshState) (getD events n 0) time),
+        up-to-most n,
+        events-most (suc n) (getD alarms n blank .kind) (bit (getD states n freshState .flags) 1) time 24 0 (getD events n 0),
+      )
+
+  pub log-most : (n : ℕ) → length (logTo n) ≤ 16 * countOf events n
+  log-most n = omega (arith, log-length (eventsUpTo alarms states events time n), up-to-most n)
 
   -- as many events as bits
   pub up-to-count : (n : ℕ) → ((i : ℕ) → i < n → getD events i 0 < 2 ^ 24) → length (eventsUpTo alarms states events time n) ≡ countOf events n
