@@ -9,8 +9,9 @@ use lib.Ieee.{Float}
 use Rattle.settings.specs.declared.types.Limits.{Limits}
 use Rattle.level.specs.Level.{metBits, freesBits}
 use Rattle.condition.specs.Command.{ackBits}
-use Rattle.wire.specs.Bits.{bit, wordOf}
-use Rattle.wire.proofs.WordLaws.{bit-word, word-halves, word-join}
+use Rattle.wire.specs.Bits.{bit, wordOf, spread}
+use Rattle.wire.proofs.WordLaws.{word-halves, word-join}
+use Rattle.wire.proofs.MaskLaws.{bit-spread}
 use Rattle.condition.specs.Mode.{modeBits}
 use Rattle.condition.specs.Outcome.{toldOf, outcomeBits}
 use Rattle.alarm.specs.Held.{lookDigital, digitalFlags, High, Low, AnalogHeld, lookAnalog, analogFlags}
@@ -38,11 +39,11 @@ module _ (flags duration : ℕ) (s : State) (input : Bool) (word time : ℕ) {m 
 
 -- ---- an analog alarm
 
--- the words of six bits are read bit by bit
+-- the words of the six are read bit by bit
 cell-lists : (flags : ℕ) (enabled required : Bool) (met frees ready acks : List Bool) (k : ℕ)
-    → cell flags enabled (wordOf met) (wordOf frees) (wordOf ready) (wordOf acks) required k
+    → cell flags enabled (wordOf (spread met)) (wordOf (spread frees)) (wordOf (spread ready)) (wordOf (spread acks)) required k
     ≡ outcomeBits (toldOf enabled (getD met k false) (getD frees k false) (getD ready k false) (getD acks k false) required) (bit flags (6 + 3 * k)) (bit flags (7 + 3 * k))
-cell-lists flags enabled required met frees ready acks k = rw (bit-word met k, bit-word frees k, bit-word ready k, bit-word acks k)
+cell-lists flags enabled required met frees ready acks k = rw (bit-spread met k, bit-spread frees k, bit-spread ready k, bit-spread acks k)
 
 -- modes, the sample and the runs, and the conditions
 flags-join : (d s f e h l : Bool) (cells : List Bool) → wordOf (d ∷ s ∷ f ∷ []) + 8 * wordOf (e ∷ h ∷ l ∷ []) + 64 * wordOf cells ≡ wordOf (d ∷ s ∷ f ∷ e ∷ h ∷ l ∷ cells)
@@ -61,11 +62,11 @@ module _ (flags duration : ℕ) (g : Limits) (period : ℕ) (s : State) (x : Flo
       (getD (readyBits (s .flags) (after .run High .start) (after .run Low .start) duration time) k false) (getD (ackBits word (s .previous)) k false) (bit flags 4))
       (bit (s .flags) (6 + 3 * k)) (bit (s .flags) (7 + 3 * k))
 
-  pub decided-is : decided flags duration g (startsAfter s time) (not (after .disabled)) (wordOf (metBits flags g period x (after .sample .rate))) x word time
+  pub decided-is : decided flags duration g (startsAfter s time) (not (after .disabled)) (wordOf (spread (metBits flags g period x (after .sample .rate)))) x word time
       ≡ record { kept = wordOf (six (take 3) outcomes); events = wordOf (six (drop 3) outcomes) }
   unfolding decided cellsOf startsAfter
   decided-is =
-      let e : _≡_ {A = ℕ → List Bool} (cell (s .flags) (not (after .disabled)) (wordOf (metBits flags g period x (after .sample .rate))) (wordOf (freesBits g x)) (wordOf (readyBits (s .flags) (after .run High .start) (after .run Low .start) duration time)) (wordOf (ackBits word (s .previous))) (bit flags 4)) outcomes =
+      let e : _≡_ {A = ℕ → List Bool} (cell (s .flags) (not (after .disabled)) (wordOf (spread (metBits flags g period x (after .sample .rate)))) (wordOf (spread (freesBits g x))) (wordOf (spread (readyBits (s .flags) (after .run High .start) (after .run Low .start) duration time))) (wordOf (spread (ackBits word (s .previous)))) (bit flags 4)) outcomes =
       fun-ext (cell-lists (s .flags) (not (after .disabled)) (bit flags 4) (metBits flags g period x (after .sample .rate)) (freesBits g x) (readyBits (s .flags) (after .run High .start) (after .run Low .start) duration time) (ackBits word (s .previous)))
       in
       ap (λ (o : ℕ → List Bool). record { kept = wordOf (six (take 3) o); events = wordOf (six (drop 3) o) }) e

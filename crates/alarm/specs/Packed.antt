@@ -4,7 +4,7 @@ use mathlib.Core.Bool.{Bool, true, _||_, cond}
 use mathlib.Core.List.{List, [], _∷_}
 use lib.Dec.{leb}
 use lib.Ieee.{Float}
-use Rattle.wire.specs.Bits.{bit, wordOf}
+use Rattle.wire.specs.Bits.{bit, wordOf, spread}
 use Rattle.settings.specs.declared.types.Limits.{Limits}
 use Rattle.level.specs.Level.{freesBits}
 use Rattle.level.specs.Rate.{sampleAfter}
@@ -13,6 +13,7 @@ use Rattle.condition.specs.Command.{ackBits}
 use Rattle.six.specs.Cells.{cellsOf}
 use Rattle.six.specs.declared.decide.Cells.{Cells}
 use Rattle.alarm.specs.declared.state.State.{State}
+use Rattle.alarm.specs.declared.state.Stepped.{Stepped}
 
 -- a level: its side's run has lasted, or its side had a condition in alarm; a rate always
 unfoldable pub readyBits : ℕ → ℕ → ℕ → ℕ → ℕ → List Bool
@@ -48,5 +49,27 @@ resampled s period enabled x time =
 -- the conditions of a state whose runs begin where this scan's do
 unfoldable pub decided : ℕ → ℕ → Limits → State → Bool → ℕ → Float → ℕ → ℕ → Cells
 decided flags duration g s enabled met x word time =
-    cellsOf (s .flags) enabled met (wordOf (freesBits g x)) (wordOf (readyBits (s .flags) (s .high) (s .low) duration time))
-    (wordOf (ackBits word (s .previous))) (bit flags 4)
+    cellsOf (s .flags) enabled met (wordOf (spread (freesBits g x))) (wordOf (spread (readyBits (s .flags) (s .high) (s .low) duration time)))
+    (wordOf (spread (ackBits word (s .previous)))) (bit flags 4)
+
+-- an analog alarm at rest, with the sample after the scan: every start is this scan's, and there are no events
+abbrev pub restAfter : State → Sample → ℕ → Stepped
+restAfter s sample time =
+    record {
+      state = record {
+        flags = s .flags;
+        previous = 0;
+        sample = sample .value;
+        rate = sample .rate;
+        sampled = sample .at;
+        high = time;
+        low = time;
+        hh = time;
+        h = time;
+        l = time;
+        ll = time;
+        rocpos = time;
+        rocneg = time;
+      };
+      events = 0;
+    }

@@ -1,9 +1,10 @@
 // One scan of an analog alarm.
 ghost use mathlib.Core.Path.{_≡_};
 ghost use Prim.Native.Nat.{_<_};
-ghost use Rattle.wire.specs.Bits.{wordOf};
+ghost use Rattle.wire.specs.Bits.{wordOf, spread};
 ghost use Rattle.alarm.specs.Analog.{analogStep};
 ghost use Rattle.alarm.specs.Packed.{readyBits, startsAfter, resampled, decided};
+use crate::rest::analog_rest;
 use crate::state::State;
 use crate::state::Stepped;
 use condition::command::ack_word;
@@ -17,16 +18,16 @@ use level::rate::sample_after;
 use settings::types::Limits;
 use six::decide::Cells;
 use six::decide::decide;
+use wire::bits::spread6;
 use wire::bits::word3;
-use wire::bits::word6;
 
-// The conditions that would be due if they are met, as bits in order.
+// The conditions that would be due if they are met, as bits in order, at every third place.
 fn ready_word(flags: u32, high: u64, low: u64, duration: u32, time: u64) -> u32
-    ensures { λ r. ⌜ (r ≡ wordOf (readyBits flags high low duration time)) × (r < 64) ⌝ }
+    ensures { λ r. ⌜ (r ≡ wordOf (spread (readyBits flags high low duration time))) × (r < 65536) ⌝ }
 {
     let h = lasted(high, duration, time) | ((flags / 64 % 2 == 1) | (flags / 512 % 2 == 1));
     let l = lasted(low, duration, time) | ((flags / 4096 % 2 == 1) | (flags / 32768 % 2 == 1));
-    word6(h, h, l, l, true, true)
+    spread6(h, h, l, l, true, true)
 }
 
 // The state with the starts of runs and rows that this scan goes on with, or begins.
@@ -102,10 +103,14 @@ pub fn analog_step(
     let enabled = !(m % 2 == 1);
     let sample = resample(s, period, enabled, x, time);
     let met = met_word(flags, g, period, x, sample.rate);
+    // at rest the flags say only that a sample is stored
+    if (word == 0) & (s.flags == 8) & (met == 0) {
+        return analog_rest(s, sample, time);
+    }
     let mut next = restart(s, time);
     let six = conditions(flags, duration, g, next, enabled, met, x, word, time);
-    let high = enabled & ((met % 2 == 1) | (met / 2 % 2 == 1));
-    let low = enabled & ((met / 4 % 2 == 1) | (met / 8 % 2 == 1));
+    let high = enabled & ((met % 2 == 1) | (met / 8 % 2 == 1));
+    let low = enabled & ((met / 64 % 2 == 1) | (met / 512 % 2 == 1));
     next.flags = m % 8 + 8 * word3(enabled, high, low) + 64 * six.kept;
     next.previous = word;
     next.sample = sample.value;

@@ -1,9 +1,9 @@
 // Acknowledgements and resets that a command word commands.
 ghost use mathlib.Core.Path.{_≡_};
 ghost use Prim.Native.Nat.{_<_};
-ghost use Rattle.wire.specs.Bits.{wordOf};
+ghost use Rattle.wire.specs.Bits.{wordOf, spread};
 ghost use Rattle.condition.specs.Command.{resets, acksAll, ackBits};
-use wire::bits::word6;
+use wire::bits::spread6;
 
 pub fn acks_all(word: u32, previous: u32) -> bool
     ensures { λ r. ⌜ r ≡ acksAll word previous ⌝ }
@@ -17,12 +17,16 @@ pub fn resets_one(word: u32, previous: u32) -> bool
     ((word / 2 % 2 == 1) & !(previous / 2 % 2 == 1)) | (word / 256 % 2 == 1)
 }
 
-// A bit for each condition of an analog alarm, HH, H, L, LL, ROCPos, ROCNeg.
+// A bit for each condition of an analog alarm, HH, H, L, LL, ROCPos, ROCNeg, at every third place. Most scans command nothing,
+// and acknowledge nothing.
 pub fn ack_word(word: u32, previous: u32) -> u32
-    ensures { λ r. ⌜ (r ≡ wordOf (ackBits word previous)) × (r < 64) ⌝ }
+    ensures { λ r. ⌜ (r ≡ wordOf (spread (ackBits word previous))) × (r < 65536) ⌝ }
 {
+    if word == 0 {
+        return 0;
+    }
     let all = acks_all(word, previous);
-    word6(
+    spread6(
         all | ((word / 8192 % 2 == 1) & !(previous / 8192 % 2 == 1)) | (word / 524_288 % 2 == 1),
         all
             | ((word / 16384 % 2 == 1) & !(previous / 16384 % 2 == 1))

@@ -7,10 +7,14 @@ use wire::bits::word3;
 use wire::bits::word6;
 
 // One scan of an alarm's modes. Of `digit`, bit 0 is disabled and bit 1 suppressed. The result has these anew, InFaulted in
-// bit 2, and in bits 3 to 7 disabled, enabled, suppressed, unsuppressed and count reset as events.
+// bit 2, and in bits 3 to 7 disabled, enabled, suppressed, unsuppressed and count reset as events. Most scans command nothing,
+// and leave the modes as they are.
 pub fn modes(digit: u32, word: u32, previous: u32) -> u32
     ensures { λ r. ⌜ (r ≡ wordOf (modeBits (bit digit 0) (bit digit 1) word previous)) × (r < 512) ⌝ }
 {
+    if word == 0 {
+        return digit % 4;
+    }
     let disabled = digit % 2 == 1;
     let suppressed = digit / 2 % 2 == 1;
     let enables = (word / 8 % 2 == 1) | (word / 1024 % 2 == 1);

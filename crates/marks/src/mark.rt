@@ -1,9 +1,9 @@
-// The words of an alarm: its count reset stamp, then those of its conditions; and the words of all alarms.
+// The words of an alarm: its count reset stamp, then those of its conditions.
 ghost use mathlib.Core.Path.{_≡_};
-ghost use Prim.Native.Nat.{_+_, _*_, _≤_};
+ghost use Prim.Native.Nat.{_+_, _≤_};
 ghost use lib.ListN.{length};
 ghost use Rattle.wire.specs.Bits.{bit};
-ghost use Rattle.marks.specs.Marks.{requiredOf, markConditions, markAlarm, markAlarms};
+ghost use Rattle.marks.specs.Marks.{requiredOf, markConditions, markAlarm};
 use crate::words::mark_condition;
 use crate::words::start_at;
 use alarm::state::State;
@@ -12,7 +12,7 @@ use settings::types::Alarm;
 use settings::types::Kind;
 
 // AckRequired.
-fn is_required(alarm: Alarm) -> bool
+pub fn is_required(alarm: Alarm) -> bool
     ensures { λ r. ⌜ r ≡ requiredOf (alarm .kind) (alarm .flags) ⌝ }
 {
     let flags = alarm.flags;
@@ -51,7 +51,7 @@ fn mark_conditions(marks: &mut [u64], base: usize, required: bool, s: State, eve
 }
 
 // Marks what a scan did to the alarm whose words begin at `at`. Most scans have no events.
-fn mark_alarm(marks: &mut [u64], at: usize, required: bool, s: State, events: u32, time: u64)
+pub fn mark_alarm(marks: &mut [u64], at: usize, required: bool, s: State, events: u32, time: u64)
     requires { ⌜ at + 25 ≤ length (now marks) ⌝ }
     ensures { λ _. ⌜ now (marks .exit) ≡ markAlarm required s events time at (now (marks .entry)) ⌝ }
 {
@@ -61,30 +61,4 @@ fn mark_alarm(marks: &mut [u64], at: usize, required: bool, s: State, events: u3
     let reset = marks[at];
     marks[at] = choose(events / 16 % 2 == 1, time, reset);
     mark_conditions(marks, at + 1, required, s, events, time);
-}
-
-// Marks what a scan did to each of the first `count` alarms, given their states after it.
-pub fn mark_alarms(
-    marks: &mut [u64],
-    alarms: [Alarm; 24],
-    states: [State; 24],
-    events: [u32; 24],
-    count: usize,
-    time: u64,
-)
-    requires { ⌜ (count ≤ 24) × (25 * count ≤ length (now marks)) ⌝ }
-    ensures { λ _. ⌜ now (marks .exit) ≡ markAlarms alarms states events time count (now (marks .entry)) ⌝ }
-{
-    let mut place = 0;
-    while place < count {
-        mark_alarm(
-            marks,
-            25 * place,
-            is_required(alarms[place]),
-            states[place],
-            events[place],
-            time,
-        );
-        place += 1;
-    }
 }

@@ -1,4 +1,4 @@
--- The six conditions of an analog alarm in words of bits: met, freed, ready and acknowledged have a bit for each.
+-- The six conditions of an analog alarm in words of bits: met, freed, ready and acknowledged have a bit for each, at every third place.
 use Prim.Native.Nat.{ℕ, _+_, _*_}
 use mathlib.Core.Bool.{Bool}
 use mathlib.Core.List.{List, _++_}
@@ -10,7 +10,7 @@ use Rattle.six.specs.declared.decide.Cells.{Cells}
 -- the outcome of the condition at place k, whose bits in the flags begin at 6 + 3 k
 abbrev pub cell : ℕ → Bool → ℕ → ℕ → ℕ → ℕ → Bool → ℕ → List Bool
 cell flags enabled met frees ready acks required k =
-    outcomeBits (toldOf enabled (bit met k) (bit frees k) (bit ready k) (bit acks k) required) (bit flags (6 + 3 * k)) (bit flags (7 + 3 * k))
+    outcomeBits (toldOf enabled (bit met (3 * k)) (bit frees (3 * k)) (bit ready (3 * k)) (bit acks (3 * k)) required) (bit flags (6 + 3 * k)) (bit flags (7 + 3 * k))
 
 -- of six outcomes, what is kept, and the events
 abbrev pub six : (List Bool → List Bool) → (ℕ → List Bool) → List Bool

@@ -1,4 +1,5 @@
 pub mod Laws
 pub mod Reals
 pub mod WordLaws
+pub mod MaskLaws
 mod Examples

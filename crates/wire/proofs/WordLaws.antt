@@ -6,6 +6,7 @@ use Prim.Native.Nat.{ℕ, zero, suc, _+_, _*_, _/_, _%_, _^_, _<_}
 use native.Mathlib.Nat.{zero-add, one-mul, pow-zero, pow-succ', mul-add, mul-assoc, add-assoc, div-one, zero-div, div-div-eq-div-mul}
 use native.Mathlib.Omega.{arith}
 use lib.Dec.{eqb}
+use lib.Arith.{mod-mul}
 use lib.Pow.{shr-shr}
 use lib.ListN.{length, getD}
 use Rattle.wire.specs.Bits.{bit, wordOf}
@@ -20,6 +21,15 @@ low false w = let e : (0 + 2 * w) % 2 ≡ 0 = omega arith in rw e refl
 
 pub bit-zero : (w : ℕ) → bit w 0 ≡ eqb (w % 2) 1
 bit-zero w = rw (pow-zero, div-one) refl
+
+one : (v : ℕ) → v < 2 → cond (eqb v 1) 1 0 ≡ v
+one zero h = refl
+one (suc zero) h = refl
+one (suc (suc v)) h = absurd (omega arith)
+
+-- a bit as a number
+pub bit-digit : (w k : ℕ) → cond (bit w k) 1 0 ≡ w / 2 ^ k % 2
+bit-digit w k = one (w / 2 ^ k % 2) (omega arith)
 
 -- each bit is read back
 pub bit-word : (bs : List Bool) (k : ℕ) → bit (wordOf bs) k ≡ getD bs k false
@@ -57,6 +67,14 @@ word-halves a b c rest h =
     let l = word-lt (a ∷ b ∷ c ∷ []) in
     (omega arith, omega arith)
 
+-- the two lowest bits
+pub word-two : (w : ℕ) → w % 4 ≡ wordOf (bit w 0 ∷ bit w 1 ∷ [])
+unfolding wordOf
+word-two w = go (mod-mul w (omega arith) (omega arith)) (bit-digit w 0 ∙ rw div-one) (bit-digit w 1)
+  where
+    go : {m low high a b : ℕ} → m ≡ high * 2 + low → a ≡ low → b ≡ high → m ≡ a + 2 * (b + 2 * 0)
+    go e f g = omega arith
+
 -- the lowest bit
 pub word-low : (b : Bool) (rest : List Bool) {w : ℕ} → w ≡ wordOf (b ∷ rest) → eqb (w % 2) 1 ≡ b
 unfolding wordOf
@@ -66,19 +84,3 @@ word-low b rest h = rw h (low b (wordOf rest))
 pub word-rest : (b : Bool) (rest : List Bool) {w : ℕ} → w ≡ wordOf (b ∷ rest) → w / 2 ≡ wordOf rest
 unfolding wordOf
 word-rest b rest h = rw h (half b (wordOf rest))
-
--- six threes of bits
-pub word-threes : (x₀ x₁ x₂ x₃ x₄ x₅ : List Bool) → length x₀ ≡ 3 → length x₁ ≡ 3 → length x₂ ≡ 3 → length x₃ ≡ 3 → length x₄ ≡ 3
-    → wordOf x₀ + 8 * wordOf x₁ + 64 * wordOf x₂ + 512 * wordOf x₃ + 4096 * wordOf x₄ + 32768 * wordOf x₅ ≡ wordOf (x₀ ++ (x₁ ++ (x₂ ++ (x₃ ++ (x₄ ++ x₅)))))
-word-threes x₀ x₁ x₂ x₃ x₄ x₅ l₀ l₁ l₂ l₃ l₄ =
-    let three : (x y : List Bool) → length x ≡ 3 → wordOf (x ++ y) ≡ wordOf x + 8 * wordOf y =
-    λ x y l. word-append x y ∙ ap (λ (k : ℕ). wordOf x + 2 ^ k * wordOf y) l
-    in
-    omega (
-      arith,
-      three x₀ (x₁ ++ (x₂ ++ (x₃ ++ (x₄ ++ x₅)))) l₀,
-      three x₁ (x₂ ++ (x₃ ++ (x₄ ++ x₅))) l₁,
-      three x₂ (x₃ ++ (x₄ ++ x₅)) l₂,
-      three x₃ (x₄ ++ x₅) l₃,
-      three x₄ x₅ l₄,
-    )

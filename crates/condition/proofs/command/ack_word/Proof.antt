@@ -1,13 +1,20 @@
--- `condition::command::ack_word` meets its contract: a bit for each condition. Assumes nothing.
+-- `condition::command::ack_word` meets its contract: a bit for each condition, and none of a word that has none. Assumes nothing.
 use borrow.Author.Needs.{needs}
 use Rattle.condition.specs.Command.{ackBits}
-use mathlib.Core.Path.{_∙_}
+use Rattle.wire.specs.Bits.{wordOf, spread}
+use native.Mathlib.Omega.{arith}
+use mathlib.Core.Path.{sym, ap, _∙_}
+use Prim.Native.Nat.{ℕ}
 use Rattle.condition.proofs.command.ack_word.Statement.{statement}
 use Rattle.condition.proofs.command.ack_word.Tie as tie
 
 returns : tie.Need-returns
+unfolding wordOf spread ackBits
+returns c = (sym (ap (λ (w : ℕ). wordOf (spread (ackBits w (c .before .args .previous)))) (c .if1 .taken)), omega arith)
+
+returns-2 : tie.Need-returns-2
 unfolding ackBits
-returns c = (c .word6 .ensures .0 ∙ rw (c .before .acks-all .ensures), c .word6 .ensures .1)
+returns-2 c = (c .spread6 .ensures .0 ∙ rw (c .before .acks-all .ensures), c .spread6 .ensures .1)
 
 pub ack-word-spec : {M : Type 1} → statement M
-ack-word-spec = tie.close (tie.spec (λ c κs. search needs) (λ c κs. search needs) returns)
+ack-word-spec = tie.close (tie.spec returns (λ c κs. search needs) (λ c κs. search needs) returns-2)

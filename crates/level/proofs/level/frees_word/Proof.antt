@@ -6,7 +6,7 @@ use Rattle.level.proofs.level.frees_word.Tie as tie
 
 returns : tie.Need-returns
 unfolding freesBits
-returns c = c .word6 .ensures
+returns c = c .spread6 .ensures
 
 pub frees-word-spec : {M : Type 1} → statement M
 frees-word-spec = tie.close (tie.spec (λ c κs. search needs) returns)

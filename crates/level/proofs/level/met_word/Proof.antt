@@ -7,7 +7,7 @@ use Rattle.level.proofs.level.met_word.Tie as tie
 
 returns : tie.Need-returns
 unfolding metBits
-returns c = rw div-one (c .word6 .ensures)
+returns c = rw div-one (c .spread6 .ensures)
 
 pub met-word-spec : {M : Type 1} → statement M
 met-word-spec = tie.close (tie.spec (λ c κs. search needs) returns)
