@@ -45,11 +45,6 @@ pub mod command {
     pub fn acting(now: u32, before: u32) -> u32 {
         now & !(before & EDGE) & !IN_FAULT
     }
-
-    /// True where `now` commands nothing and leaves nothing new to remember.
-    pub fn is_idle(now: u32, before: u32) -> bool {
-        now ^ before | now & !(EDGE | IN_FAULT) == 0
-    }
 }
 
 /// The events of one alarm in one scan, a bit each, in the order in which they are written: bits 0 to 4
@@ -207,7 +202,7 @@ struct Labels<const N: usize> {
 }
 
 /// The step of one alarm, worked out and not yet carried out.
-#[derive(Clone, Copy, Debug, Default, PartialEq)]
+#[derive(Clone, Copy, Debug, Default)]
 pub struct Next {
     pub state: State,
     pub commands: u32,
@@ -302,18 +297,6 @@ impl Digital {
         }
     }
 
-    /// True only where the step would change nothing, so that it need not be worked out. (A disabled alarm
-    /// has both sets empty and keeps them so.)
-    #[inline(always)]
-    pub fn is_still(&self, input: bool, commands: u32) -> bool {
-        let (in_alarm, met) = (self.memory.state.in_alarm(), self.memory.state.met());
-        let set = Set::from(input == self.settings.condition);
-        let freed = Set::from(!self.settings.latched);
-        command::is_idle(commands, self.memory.commands)
-            & (set == met)
-            & (set & !in_alarm | in_alarm & !set & freed == 0)
-    }
-
     #[inline(always)]
     pub fn step(&self, time: u64, input: bool, commands: u32) -> Next {
         let was = self.memory.state;
@@ -349,8 +332,6 @@ struct Thresholds {
     enter: [f32; 4],
     /// HH, H, L, LL: cleared when not met and strictly inside.
     leave: [f32; 4],
-    /// No level is met strictly between these two.
-    calm: (f32, f32),
     /// ROCPos met at or above the first, ROCNeg at or below the second.
     rates: (f32, f32),
 }
@@ -373,7 +354,6 @@ impl Thresholds {
                 limits.l + limits.deadband,
                 limits.ll + limits.deadband,
             ],
-            calm: (settings.low().unwrap_or(-NEVER), settings.high().unwrap_or(NEVER)),
             rates: (rate(limits.roc_pos), -rate(limits.roc_neg)),
         }
     }
@@ -396,10 +376,6 @@ impl Thresholds {
             | Set::from(level > ll) << 3
             | RATES
     }
-
-    fn is_calm(&self, level: f32) -> bool {
-        (self.calm.0 < level) & (level < self.calm.1)
-    }
 }
 
 #[derive(Clone, Debug)]
@@ -417,7 +393,7 @@ pub struct Analog {
 }
 
 /// The step of an analog alarm: the reading becomes the sample, or not, and the rate.
-#[derive(Clone, Copy, Debug, Default, PartialEq)]
+#[derive(Clone, Copy, Debug, Default)]
 pub struct AnalogNext {
     next: Next,
     sample: Option<f32>,
@@ -443,17 +419,6 @@ impl Analog {
             thresholds: Thresholds::new(&settings),
             labels: Labels { ack_required: settings.ack_required, first: 1, severity },
         }
-    }
-
-    /// True only where the step would change nothing, so that it need not be worked out: an idle command
-    /// word, no sample due, nothing in alarm and nothing met before or now.
-    #[inline(always)]
-    pub fn is_still(&self, time: u64, level: f32, commands: u32) -> bool {
-        const IRRELEVANT: u32 = SIX << State::UNACKNOWLEDGED | State::SUPPRESSED;
-        command::is_idle(commands, self.memory.commands)
-            & (self.memory.state.0 & !IRRELEVANT == State::ENABLED | State::SAMPLED)
-            & !self.sample_is_due(time)
-            & self.thresholds.is_calm(level)
     }
 
     fn sample_is_due(&self, time: u64) -> bool {
@@ -495,21 +460,13 @@ impl Analog {
         AnalogNext { next: Next { state, commands, events: Events(whole | own) }, sample, rate }
     }
 
-    /// True where carrying the step out would leave all as it is. Events and a rate of 0 by disabling come
-    /// only with another state or command word.
-    #[inline(always)]
-    pub fn is_kept_by(&self, next: &AnalogNext) -> bool {
-        next.next.state == self.memory.state
-            && next.next.commands == self.memory.commands
-            && next.sample.is_none()
-    }
-
     #[inline(always)]
     pub fn commit(&mut self, next: &AnalogNext, alarm: u8, out: &mut Outlet) {
         let (before, now) = (self.memory.state.met(), next.next.state.met());
         for (since, side) in self.run_since.iter_mut().zip([HIGH, LOW]) {
-            let begun = (before & side == 0) & (now & side != 0);
-            *since = if begun { out.time } else { *since };
+            if before & side == 0 && now & side != 0 {
+                *since = out.time;
+            }
         }
         if let Some(level) = next.sample {
             self.sample = level;

@@ -1,6 +1,6 @@
 //! A scan over the whole bank, and many in a row.
 
-use crate::alarm::{Analog, AnalogNext, Digital, Next, Outlet, command};
+use crate::alarm::{AnalogNext, Next, Outlet, command};
 use crate::settings::{MOST, is_real};
 use crate::{Bank, EVENT_LEN, Refusal};
 
@@ -8,11 +8,18 @@ pub const TIME_LEN: usize = 8;
 pub const DIGITAL_LEN: usize = 5;
 pub const ANALOG_LEN: usize = 8;
 
-/// The steps of a scan's alarms that change something, worked out and not yet carried out.
+/// The steps of a scan's alarms, worked out and not yet carried out.
 #[derive(Default)]
 struct Scratch {
-    digital: [(u8, Next); MOST],
-    analog: [(u8, AnalogNext); MOST],
+    digital: [Next; MOST],
+    analog: [AnalogNext; MOST],
+}
+
+/// A record taken apart.
+struct Parts<'a> {
+    time: u64,
+    digital: &'a [[u8; DIGITAL_LEN]],
+    analog: &'a [[u8; ANALOG_LEN]],
 }
 
 /// What a replay came to. `number`, `place` and `index` (of the record, from 0) are those of the first
@@ -65,6 +72,17 @@ impl Bank {
         record: &[u8],
         events: &mut [u8],
     ) -> Result<usize, Refusal> {
+        let parts = self.check(record)?;
+        let count = self.step(scratch, &parts);
+        if events.len() < count * EVENT_LEN {
+            return Err(Refusal::new(12, 0));
+        }
+        self.commit(scratch, parts.time, events);
+        Ok(count)
+    }
+
+    /// The parts of a record without fault, or its first fault in reading order.
+    fn check<'a>(&self, record: &'a [u8]) -> Result<Parts<'a>, Refusal> {
         if record.len() != self.record_len() {
             return Err(Refusal::new(7, 0));
         }
@@ -75,71 +93,47 @@ impl Bank {
         if time < self.time {
             return Err(Refusal::new(8, 0));
         }
-        let (digital_body, analog_body) = body.split_at(DIGITAL_LEN * self.digital.len());
-
-        // Check each alarm, and note by bit which ones have anything to do. The bits are gathered without
-        // branches, as those would be hard to foresee.
-        let digital = digital_body.as_chunks::<DIGITAL_LEN>().0;
-        let mut digital_moves = 0_u32;
-        for (n, (alarm, reading)) in self.digital.iter().zip(digital).enumerate() {
-            let (input, commands) = decode_digital(reading);
-            check_digital(input, commands).map_err(|number| Refusal::new(number, n + 1))?;
-            digital_moves |= u32::from(!alarm.is_still(input == 1, commands)) << n;
+        let (digital, analog) = body.split_at(DIGITAL_LEN * self.digital.len());
+        let (digital, analog) = (digital.as_chunks().0, analog.as_chunks().0);
+        for (part, n) in digital.iter().zip(1..) {
+            let (input, commands) = decode_digital(part);
+            check_digital(input, commands).map_err(|number| Refusal::new(number, n))?;
         }
-        let analog = analog_body.as_chunks::<ANALOG_LEN>().0;
-        let mut analog_moves = 0_u32;
-        for (n, (alarm, reading)) in self.analog.iter().zip(analog).enumerate() {
-            let (level, commands) = decode_analog(reading);
-            check_analog(level, commands)
-                .map_err(|number| Refusal::new(number, self.digital.len() + n + 1))?;
-            analog_moves |= u32::from(!alarm.is_still(time, level, commands)) << n;
+        for (part, n) in analog.iter().zip(self.digital.len() + 1..) {
+            let (level, commands) = decode_analog(part);
+            check_analog(level, commands).map_err(|number| Refusal::new(number, n))?;
         }
-
-        // Work their steps out. Nothing of the bank changes yet.
-        let mut total = 0;
-        let mut digital_steps = 0;
-        for n in members(digital_moves) {
-            let (input, commands) = decode_digital(&digital[n]);
-            let next = self.digital[n].step(time, input == 1, commands);
-            total += next.events.count() as usize;
-            scratch.digital[digital_steps] = (n as u8, next);
-            digital_steps += 1;
-        }
-        let mut analog_steps = 0;
-        for n in members(analog_moves) {
-            let (level, commands) = decode_analog(&analog[n]);
-            let next = self.analog[n].step(time, level, commands);
-            total += next.events().count() as usize;
-            scratch.analog[analog_steps] = (n as u8, next);
-            analog_steps += usize::from(!self.analog[n].is_kept_by(&next));
-        }
-        if events.len() < total * EVENT_LEN {
-            return Err(Refusal::new(12, 0));
-        }
-
-        // Carry the steps out.
-        self.time = time;
-        let mut out = Outlet { time, slots: events.as_chunks_mut::<EVENT_LEN>().0.iter_mut() };
-        let first_analog = self.digital.len() as u8 + 1;
-        for (n, next) in &scratch.digital[..digital_steps] {
-            let alarm: &mut Digital = &mut self.digital[usize::from(*n)];
-            alarm.commit(next, n + 1, &mut out);
-        }
-        for (n, next) in &scratch.analog[..analog_steps] {
-            let alarm: &mut Analog = &mut self.analog[usize::from(*n)];
-            alarm.commit(next, first_analog + n, &mut out);
-        }
-        Ok(total)
+        Ok(Parts { time, digital, analog })
     }
-}
 
-/// The members of a set given by bits, lowest first.
-fn members(mut set: u32) -> impl Iterator<Item = usize> {
-    std::iter::from_fn(move || {
-        let lowest = (set != 0).then_some(set.trailing_zeros() as usize);
-        set &= set.wrapping_sub(1);
-        lowest
-    })
+    /// Works every alarm's step out and counts the events. Nothing of the bank changes yet.
+    fn step(&self, scratch: &mut Scratch, parts: &Parts) -> usize {
+        let mut count = 0;
+        for ((alarm, part), next) in self.digital.iter().zip(parts.digital).zip(&mut scratch.digital) {
+            let (input, commands) = decode_digital(part);
+            *next = alarm.step(parts.time, input == 1, commands);
+            count += next.events.count() as usize;
+        }
+        for ((alarm, part), next) in self.analog.iter().zip(parts.analog).zip(&mut scratch.analog) {
+            let (level, commands) = decode_analog(part);
+            *next = alarm.step(parts.time, level, commands);
+            count += next.events().count() as usize;
+        }
+        count
+    }
+
+    /// Carries every alarm's step out.
+    fn commit(&mut self, scratch: &Scratch, time: u64, events: &mut [u8]) {
+        self.time = time;
+        let mut out = Outlet { time, slots: events.as_chunks_mut().0.iter_mut() };
+        let first_analog = self.digital.len() as u8 + 1;
+        for ((alarm, next), n) in self.digital.iter_mut().zip(&scratch.digital).zip(1..) {
+            alarm.commit(next, n, &mut out);
+        }
+        for ((alarm, next), n) in self.analog.iter_mut().zip(&scratch.analog).zip(first_analog..) {
+            alarm.commit(next, n, &mut out);
+        }
+    }
 }
 
 /// A digital alarm's reading and command word.

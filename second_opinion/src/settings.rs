@@ -177,13 +177,13 @@ impl AnalogSettings {
     }
 
     /// The higher enabled low limit: L where the limits rise, LL where it alone is enabled.
-    pub fn low(&self) -> Option<f32> {
+    fn low(&self) -> Option<f32> {
         let Limits { l, ll, .. } = self.limits;
         if self.l_enabled { Some(l) } else { self.ll_enabled.then_some(ll) }
     }
 
     /// The lower enabled high limit: H where the limits rise, HH where it alone is enabled.
-    pub fn high(&self) -> Option<f32> {
+    fn high(&self) -> Option<f32> {
         let Limits { h, hh, .. } = self.limits;
         if self.h_enabled { Some(h) } else { self.hh_enabled.then_some(hh) }
     }
