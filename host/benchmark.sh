@@ -1,19 +1,15 @@
 #!/bin/sh
-# Times the archive's replay and the second opinion's on the same scans, and holds their ratio to its bound.
+# Times the archive's replay, scans of a bank by value, and the second opinion's replay, on the same scans, and holds both
+# ratios to their bounds.
 #
 #   host/benchmark.sh [--write] [ROUNDS]
 #
 # ROUNDS: the least time of so many counts (15). --write: writes docs/speed.md and docs/speed.svg too.
-# Ends with 0 if both give the same bytes and every ratio is within its bound; else with 1 and a line for each that is not.
+# Ends with 0 if all give the same bytes and every ratio is within its bound; else with 1 and a line for each that is not.
 set -eu
 cd "$(dirname "$0")/.."
 
-# The prover says much; it is shown where it fails.
-if ! said=$(rt staticlib meifgur_c 2>&1); then
-    printf '%s\n' "$said" >&2
-    echo "host/benchmark.sh: FAILED: no archive" >&2
-    exit 1
-fi
+host/archive.sh meifgur_c scan_each
 if ! CARGO_TARGET_DIR=target/benchmark cargo build --release --quiet --offline --locked \
     --manifest-path host/benchmark/Cargo.toml; then
     echo "host/benchmark.sh: FAILED: host/benchmark does not build" >&2

@@ -8,12 +8,7 @@
 set -eu
 cd "$(dirname "$0")/.."
 
-# The prover says much; it is shown where it fails.
-if ! said=$(rt staticlib meifgur_c 2>&1); then
-    printf '%s\n' "$said" >&2
-    echo "host/differential.sh: FAILED: no archive" >&2
-    exit 1
-fi
+host/archive.sh meifgur_c
 if ! CARGO_TARGET_DIR=target/differential cargo build --release --quiet --offline --locked \
     --manifest-path host/differential/Cargo.toml; then
     echo "host/differential.sh: FAILED: host/differential does not build" >&2

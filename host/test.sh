@@ -5,7 +5,7 @@ cd "$(dirname "$0")/.."
 
 archive=target/staticlib/libmeifgur_c.a
 expected=crates/meifgur/stdout
-[ -f "$archive" ] || rt staticlib meifgur_c
+host/archive.sh meifgur_c
 
 work=$(mktemp -d)
 trap 'rm -rf "$work"' EXIT

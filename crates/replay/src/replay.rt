@@ -38,7 +38,7 @@ pub struct Tally {
 }
 
 // Where a record ends; the last one may be shorter.
-fn end_of(at: usize, size: usize, len: usize) -> usize
+pub fn end_of(at: usize, size: usize, len: usize) -> usize
     requires { ⌜ at ≤ len ⌝ }
     ensures { λ r. ⌜ r ≡ min (at + size) len ⌝ }
 {
@@ -49,7 +49,7 @@ fn end_of(at: usize, size: usize, len: usize) -> usize
 }
 
 // Before the first record.
-fn none_yet() -> Tally
+pub fn none_yet() -> Tally
     ensures { λ r. ⌜ r ≡ noneYet ⌝ }
 {
     Tally {
@@ -85,7 +85,7 @@ fn count_refusal(done: Tally, refusal: Refusal, index: usize) -> Tally
 }
 
 // After the record with this index, by its answer.
-fn count_answer(done: Tally, answer: Answer, index: usize) -> Tally
+pub fn count_answer(done: Tally, answer: Answer, index: usize) -> Tally
     requires { ⌜ (done .refused ≤ index) × (index + 1 < 2 ^ 64) × (counted done answer index .events < 2 ^ 64) ⌝ }
     ensures { λ r. ⌜ r ≡ counted done answer index ⌝ }
 {

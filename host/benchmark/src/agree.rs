@@ -1,10 +1,14 @@
-//! Whether the archive gives what the rival gives: return code, every answer word, and every byte lent.
+//! Whether the archive gives what the rival gives: return code, every answer word, and every byte lent. Of scans by value:
+//! the number of events, and every byte of their buffer.
 
-use crate::contenders::{rival, ARCHIVE};
+use crate::contenders::{rival, Contender, ANSWER_EVENTS, ARCHIVE};
 use crate::load::{Lent, Load};
 
-/// Holds each call of the archive to the rival on every list; the first difference in words.
+/// Holds each call of the archives to the rival on every list; the first difference in words.
 pub fn check(load: &Load) -> Result<(), String> {
+    if !load.same_record_len() {
+        return Err(format!("{}: records of another length", load.spec));
+    }
     for (n, list) in load.lists().enumerate() {
         let mut theirs = load.lend();
         let code = load.run(rival, list, &mut theirs);
@@ -13,7 +17,7 @@ pub fn check(load: &Load) -> Result<(), String> {
         for contender in ARCHIVE {
             let mut ours = load.lend();
             let our_code = load.run(contender.call, list, &mut ours);
-            if let Some(what) = difference((our_code, &ours), (code, &theirs)) {
+            if let Some(what) = difference(contender, (our_code, &ours), (code, &theirs)) {
                 let (spec, name) = (load.spec, contender.name);
                 return Err(format!(
                     "{spec}, list {n}: {name} and rival give different {what}"
@@ -24,22 +28,31 @@ pub fn check(load: &Load) -> Result<(), String> {
     Ok(())
 }
 
-fn difference((our_code, ours): (u32, &Lent), (code, theirs): (u32, &Lent)) -> Option<String> {
+fn difference(
+    contender: &Contender,
+    (our_code, ours): (u32, &Lent),
+    (code, theirs): (u32, &Lent),
+) -> Option<String> {
     if our_code != code {
         return Some(format!("return codes, {our_code} and {code}"));
     }
-    if ours.answer != theirs.answer {
-        return Some(format!(
-            "answers, {:?} and {:?}",
-            ours.answer, theirs.answer
-        ));
+    let words = if contender.reports {
+        0..theirs.answer.len()
+    } else {
+        ANSWER_EVENTS..ANSWER_EVENTS + 1
+    };
+    let (our_words, words) = (&ours.answer[words.clone()], &theirs.answer[words]);
+    if our_words != words {
+        return Some(format!("answers, {our_words:?} and {words:?}"));
     }
-    let events = first_other(&ours.events, &theirs.events);
-    let reports = first_other(&ours.reports, &theirs.reports);
     let at = |what: &str, at: usize| format!("{what}, first at byte {at}");
-    events
-        .map(|byte| at("events", byte))
-        .or(reports.map(|byte| at("reports", byte)))
+    if let Some(byte) = first_other(&ours.events, &theirs.events) {
+        return Some(at("events", byte));
+    }
+    if !contender.reports {
+        return None;
+    }
+    first_other(&ours.reports, &theirs.reports).map(|byte| at("reports", byte))
 }
 
 /// Where two buffers of one length differ first.

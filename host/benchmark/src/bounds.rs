@@ -1,10 +1,10 @@
-//! Whether the archive keeps within its bounds.
+//! Whether the archives' calls keep within their bounds.
 
 use crate::contenders::{Contender, ARCHIVE, RIVAL};
 use crate::results::Results;
 use crate::timing::Point;
 
-/// A line for each drive on which a call of the archive takes more than its bound.
+/// A line for each drive on which a call of an archive takes more than its bound.
 pub fn above(results: &Results) -> Vec<String> {
     let mut lines = Vec::new();
     for point in results.drives() {

@@ -29,13 +29,13 @@ const BY_SCANS: Area = Area {
     ..BY_ALARMS
 };
 
-/// Colours of the archive's calls, and of the rival; told apart by the colour-blind too.
+/// Colours of the archives' calls, and of the rival; told apart by the colour-blind too.
 const BLUES: [&str; 2] = ["#1b5e9e", "#6fb1e0"];
 const ORANGE: &str = "#e08a1e";
 
 pub fn chart(results: &Results) -> String {
     let mut svg = Svg::new(WIDTH, HEIGHT, "Nanoseconds per scan");
-    svg.title(20.0, 30.0, "Nanoseconds per scan, archive and rival");
+    svg.title(20.0, 30.0, "Nanoseconds per scan, proved calls and rival");
     legend(&mut svg);
     bars::draw(&mut svg, BARS, &results.drives());
     lines::by_alarms(&mut svg, BY_ALARMS, &results.by_alarms());
@@ -54,7 +54,7 @@ fn colour(contender: usize) -> &'static str {
 
 fn legend(svg: &mut Svg) {
     let archive = ARCHIVE.iter();
-    let names = archive.map(|contender| format!("archive: {}", contender.name));
+    let names = archive.map(|contender| format!("proved: {}", contender.name));
     let rival = format!("{RIVAL}: plain Rust");
     for (n, name) in names.chain([rival]).enumerate() {
         let left = BARS.left + 180.0 * n as f64;

@@ -22,9 +22,11 @@ pub fn page(results: &Results) -> String {
 }
 
 const ABOUT: &str = "\
-Each call goes from the bytes of a settings image and of scan records to events and reports: `meifgur_replay` of the proved
-archive, and the same by the rival, the plain Rust of `second_opinion/`. Before any timing both gave the same bytes on every
-list. A time is the least of ROUNDS rounds in which they take turns on the same buffers, allocated and touched beforehand.
+Each call goes from the bytes of a settings image and of scan records to events and reports. Replay: `meifgur_replay` of the
+proved archive. Rival: the same by the plain Rust of `second_opinion/`. By-value scan: a proved loop (crates/scan_each) that
+hands the bank by value to `scan` and takes it back, record by record; events only, no reports.
+Before any timing all gave the same bytes on every list. A time is the least of ROUNDS rounds in which they take turns on the
+same buffers, allocated and touched beforehand.
 Quiet: no commands, readings wander inside the limits. Busy: readings wander across the limits, inputs change now and then,
 someone acknowledges. Storm: readings jump across all limits in each scan, every eighth command word has some bits.
 `host/benchmark.sh --write` measures all again and writes this page and its chart; without `--write` it prints the tables.

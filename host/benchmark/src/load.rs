@@ -1,5 +1,6 @@
 //! What the calls get for one drive of one bank, and are lent.
 
+use crate::by_value;
 use crate::contenders::{Replay, ANSWER_WORDS};
 use crate::image::Shape;
 use crate::spec::{Spec, SCANS};
@@ -59,6 +60,11 @@ impl Load {
             .map(|record| bank.scan(record, &mut buffer))
             .map(|count| count.expect("a record without fault"))
             .sum()
+    }
+
+    /// Whether the archive of scans by value has records of the same length.
+    pub fn same_record_len(&self) -> bool {
+        by_value::record_len(&self.image) as usize * self.spec.scans == self.length
     }
 
     /// One call, from the image to the reports.

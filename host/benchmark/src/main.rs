@@ -1,9 +1,10 @@
-//! Times the proved archive's replay and the second opinion's, the rival, on the same images and records.
+//! Times the proved archive's replay, proved scans by value, and the second opinion's replay, the rival, on the same images
+//! and records.
 //!
 //!   benchmark [--check] [--write] [ROUNDS]
 //!
-//! First both must give the same bytes on every list. Then they are timed in turns, and the least time of ROUNDS (15) rounds
-//! counts. `--check` ends with 1 if the archive takes more than its bound allows, `--write` writes docs/speed.md and
+//! First all must give the same bytes on every list. Then they are timed in turns, and the least time of ROUNDS (15) rounds
+//! counts. `--check` ends with 1 if replay or scans take more than their bound allows, `--write` writes docs/speed.md and
 //! docs/speed.svg; it runs in the repository's folder.
 
 #![deny(unsafe_code)]
@@ -11,6 +12,8 @@
 mod agree;
 mod arguments;
 mod bounds;
+#[allow(unsafe_code)] // its call of an archive
+mod by_value;
 mod chart;
 mod contenders;
 mod document;
@@ -63,7 +66,7 @@ fn run(arguments: &Arguments) -> Result<(), Failure> {
     for load in &loads {
         agree::check(load).map_err(|what| vec![what])?;
     }
-    println!("archive and rival give the same bytes on every list\n");
+    println!("archives and rival give the same bytes on every list\n");
 
     let results = Results {
         rounds: arguments.rounds,

@@ -10,7 +10,7 @@ use std::time::Instant;
 pub struct Point {
     pub spec: Spec,
     pub events_per_scan: f64,
-    /// Nanoseconds per scan: of each call of the archive, in the order of their list, and of the rival.
+    /// Nanoseconds per scan: of each call of the archives, in the order of their list, and of the rival.
     pub archive: Vec<f64>,
     pub rival: f64,
 }
@@ -33,7 +33,7 @@ impl Point {
         self.rival = self.rival.min(per_scan(load, rival, lent));
     }
 
-    /// Time of a call of the archive as a multiple of the rival's.
+    /// Time of a call of an archive as a multiple of the rival's.
     pub fn ratio(&self, contender: usize) -> f64 {
         self.archive[contender] / self.rival
     }
