@@ -233,13 +233,7 @@ impl<const N: usize> Memory<N> {
     /// Carries a step out: state, stamps, counts and events.
     #[inline(always)]
     fn commit(&mut self, next: &Next, labels: &Labels<N>, alarm: u8, out: &mut Outlet) {
-        let mut begun = next.state.met() & !self.state.met();
-        while begun != 0 {
-            if let Some(since) = self.met_since.get_mut(begun.trailing_zeros() as usize) {
-                *since = out.time;
-            }
-            begun &= begun - 1;
-        }
+        self.begin_rows(next.state.met() & !self.state.met(), out.time);
         self.state = next.state;
         self.commands = next.commands;
 
@@ -264,18 +258,37 @@ impl<const N: usize> Memory<N> {
             else {
                 continue; // no step has events of conditions that its alarm lacks
             };
-            match kind {
-                6 => log.ack_time = out.time,
-                7 => log.return_time = out.time,
-                _ => {
-                    log.count = MOST_COUNTED.min(log.count.saturating_add(1));
-                    log.alarm_time = since;
-                    if !labels.ack_required {
-                        log.ack_time = since;
-                    }
+            log.enter(kind, since, labels.ack_required, out.time);
+            out.put(alarm, labels.first + condition, kind, suppressed, severity);
+        }
+    }
+
+    /// The conditions whose row of met scans begins in a scan.
+    #[inline(always)]
+    fn begin_rows(&mut self, mut begun: Set, time: u64) {
+        while begun != 0 {
+            if let Some(since) = self.met_since.get_mut(begun.trailing_zeros() as usize) {
+                *since = time;
+            }
+            begun &= begun - 1;
+        }
+    }
+}
+
+impl Log {
+    /// Enters an event of kind 6, 7 or 8; `since` is when the row of met scans began.
+    #[inline(always)]
+    fn enter(&mut self, kind: u8, since: u64, ack_required: bool, time: u64) {
+        match kind {
+            6 => self.ack_time = time,
+            7 => self.return_time = time,
+            _ => {
+                self.count = MOST_COUNTED.min(self.count.saturating_add(1));
+                self.alarm_time = since;
+                if !ack_required {
+                    self.ack_time = since;
                 }
             }
-            out.put(alarm, labels.first + condition, kind, suppressed, severity);
         }
     }
 }
@@ -340,7 +353,9 @@ impl Thresholds {
     fn new(settings: &AnalogSettings) -> Thresholds {
         const NEVER: f32 = f32::INFINITY;
         let limits = settings.limits;
-        let rate = |limit: f32| if settings.roc_period > 0 && limit > 0.0 { limit } else { NEVER };
+        let rate = |limit: f32| {
+            if settings.roc_period > 0 && limit > 0.0 { limit } else { NEVER }
+        };
         Thresholds {
             enter: [
                 if settings.hh_enabled { limits.hh } else { NEVER },
@@ -478,7 +493,9 @@ impl Analog {
 
     /// How long the runs that `state` is in have lasted at `time`, high and low side; 0 without one.
     pub fn runs(&self, state: State, time: u64) -> [u64; 2] {
-        let run = |side: Set, since: u64| if state.met() & side == 0 { 0 } else { time.wrapping_sub(since) };
+        let run = |side: Set, since: u64| {
+            if state.met() & side == 0 { 0 } else { time.wrapping_sub(since) }
+        };
         [run(HIGH, self.run_since[0]), run(LOW, self.run_since[1])]
     }
 }

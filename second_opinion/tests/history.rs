@@ -241,7 +241,9 @@ impl Past {
         for c in 0..self.conditions() {
             report.conditions[c].acknowledged = true;
         }
-        let Some(last) = n.checked_sub(1) else { return report };
+        let Some(last) = n.checked_sub(1) else {
+            return report;
+        };
         report.enabled = self.enabled(last);
         report.suppressed = self.suppressed(last);
         report.in_faulted = self.has(last, 25);

@@ -2,9 +2,9 @@
 use Prim.Native.Nat.{ℕ}
 use mathlib.Core.Path.{_≡_, refl}
 use mathlib.Core.List.{List, [], _∷_}
-use mathlib.Core.Bool.{Bool, true, false, not, _&&_, Bool·beq}
+use mathlib.Core.Bool.{Bool, true, false, not, _&&_}
 use lib.Dec.{eqb}
-use lib.Ieee.{Float, binary32, ofBits, ofInt, sub, add, mul, div, neg, lt, le, eq, toBits}
+use lib.Ieee.{Float, binary32, ofBits, ofInt, sub, add, mul, div, neg, lt, le, eq}
 use Rattle.history.specs.Past.{since, countFrom, rowStart}
 use Rattle.history.specs.Demand.{inAlarm, unacknowledged, count}
 use Rattle.settings.specs.declared.types.Limits.{Limits}

@@ -2,7 +2,6 @@
 ghost use mathlib.Core.Path.{_≡_};
 ghost use Prim.Native.Nat.{_≤_};
 ghost use Rattle.reader.specs.Read.{readOf, restOf, refusedBy};
-use crate::section::Filled;
 use crate::section::Section;
 use crate::section::section_at;
 use settings::reply::Refusal;

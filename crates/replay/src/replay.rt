@@ -1,7 +1,6 @@
 // Scan records one after the other, on one bank and one event buffer.
 ghost use mathlib.Core.Path.{_≡_};
 ghost use Prim.Native.Nat.{_+_, _^_, _≤_, _<_, min};
-ghost use lib.ListN.{length};
 ghost use Rattle.replay.specs.Replay.{noneYet, counted, bankIn, withBank, replayOf};
 use alarm::state::State;
 use bank::bank::Bank;
