@@ -8,17 +8,17 @@ use lib.ListN.{getD, take, drop}
 use lib.Ieee.{Float}
 use Rattle.settings.specs.declared.types.Limits.{Limits}
 use Rattle.level.specs.Level.{metBits, freesBits}
-use Rattle.condition.specs.Command.{ackBits}
-use Rattle.wire.specs.Bits.{bit, wordOf, spread}
+use Rattle.condition.specs.Internal.Outcome.{ackBits, toldOf, outcomeBits}
+use Rattle.wire.specs.Bits.{bit}
+use Rattle.wire.specs.Internal.Words.{wordOf, spread}
 use Rattle.wire.proofs.WordLaws.{word-halves, word-join}
 use Rattle.wire.proofs.MaskLaws.{bit-spread}
-use Rattle.condition.specs.Mode.{modeBits}
-use Rattle.condition.specs.Outcome.{toldOf, outcomeBits}
-use Rattle.alarm.specs.Held.{lookDigital, digitalFlags, High, Low, AnalogHeld, lookAnalog, analogFlags}
-use Rattle.alarm.specs.Digital.{digitalTold, digitalAfter, digitalEvents}
-use Rattle.six.specs.Cells.{cell, six, cellsOf}
-use Rattle.alarm.specs.Packed.{readyBits, startsAfter, decided}
-use Rattle.alarm.specs.Analog.{analogAfter, analogEvents}
+use Rattle.condition.specs.Internal.Mode.{modeBits}
+use Rattle.alarm.specs.Internal.Held.{lookDigital, digitalFlags, High, Low, AnalogHeld, lookAnalog, analogFlags}
+use Rattle.alarm.specs.Internal.Digital.{digitalTold, digitalAfter, digitalEvents}
+use Rattle.six.specs.Internal.Cells.{cell, six, cellsOf}
+use Rattle.alarm.specs.Internal.Packed.{readyBits, startsAfter, decided}
+use Rattle.alarm.specs.Internal.Analog.{analogAfter, analogEvents}
 use Rattle.alarm.specs.declared.state.State.{State}
 
 -- modes, three free bits, and one condition

@@ -12,14 +12,15 @@ use Rattle.wire.specs.Bits.{bit}
 use Rattle.wire.proofs.WordLaws.{bit-word}
 use Rattle.settings.specs.declared.types.Limits.{Limits}
 use Rattle.settings.specs.declared.types.Kind.{Kind}
-use Rattle.history.specs.Condition.{Told, acknowledges, returns, activates}
+use Rattle.history.specs.Internal.Condition.{Told, acknowledges, returns, activates}
 use Rattle.level.specs.Rate.{sampleAfter}
-use Rattle.condition.specs.Command.{enables, disables, countResets, resets, acksAll, ackBits, faults}
-use Rattle.condition.specs.Mode.{disabledAfter, suppressedAfter, wholeEvents}
-use Rattle.alarm.specs.Held.{DigitalHeld, lookDigital, digitalFlags, hideDigital, Six, HH, H, L, LL, ROCPos, ROCNeg, Side, High, Low, AnalogHeld, runOf, cellOf, lookAnalog, analogFlags, hideAnalog}
-use Rattle.alarm.specs.Digital.{digitalTold, digitalAfter, digitalEvents}
-use Rattle.alarm.specs.Analog.{analogTold, cellAfter, analogAfter, cellEvents, analogEvents}
-use Rattle.alarm.specs.Events.{eventsFrom}
+use Rattle.condition.specs.Command.{enables, disables, countResets, resets, acksAll, faults}
+use Rattle.condition.specs.Internal.Outcome.{ackBits}
+use Rattle.condition.specs.Internal.Mode.{disabledAfter, suppressedAfter, wholeEvents}
+use Rattle.alarm.specs.Internal.Held.{DigitalHeld, lookDigital, digitalFlags, hideDigital, Six, HH, H, L, LL, ROCPos, ROCNeg, Side, High, Low, AnalogHeld, runOf, cellOf, lookAnalog, analogFlags, hideAnalog}
+use Rattle.alarm.specs.Internal.Digital.{digitalTold, digitalAfter, digitalEvents}
+use Rattle.alarm.specs.Internal.Analog.{analogTold, cellAfter, analogAfter, cellEvents, analogEvents}
+use Rattle.alarm.specs.Internal.Events.{eventsFrom}
 use Rattle.alarm.specs.declared.state.State.{State}
 
 -- ---- what is packed is read back

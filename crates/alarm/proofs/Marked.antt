@@ -7,14 +7,15 @@ use lib.Dec.{eqb}
 use lib.Ieee.{Float, binary32, ofBits, ofInt, lt, le, neg, add, sub, mul, div}
 use lib.ListN.{getD}
 use Rattle.settings.specs.declared.types.Limits.{Limits}
-use Rattle.history.specs.Condition.{countAfter}
+use Rattle.history.specs.Internal.Condition.{countAfter}
 use Rattle.level.specs.Level.{metBits, freesBits}
 use Rattle.level.specs.Rate.{newRate, sampleAfter}
-use Rattle.condition.specs.Command.{countResets, ackBits}
-use Rattle.condition.specs.Mark.{acting}
-use Rattle.alarm.specs.Held.{Cell, DigitalHeld, Six, H, L, ROCPos, AnalogHeld}
-use Rattle.alarm.specs.Digital.{digitalAfter, digitalEvents}
-use Rattle.alarm.specs.Analog.{analogAfter, analogEvents}
+use Rattle.condition.specs.Command.{countResets}
+use Rattle.condition.specs.Internal.Outcome.{ackBits}
+use Rattle.condition.specs.Severity.{acting}
+use Rattle.alarm.specs.Internal.Held.{Cell, DigitalHeld, Six, H, L, ROCPos, AnalogHeld}
+use Rattle.alarm.specs.Internal.Digital.{digitalAfter, digitalEvents}
+use Rattle.alarm.specs.Internal.Analog.{analogAfter, analogEvents}
 
 -- ---- runs
 

@@ -6,17 +6,17 @@ use Prim.Native.Nat.{ℕ}
 use native.Mathlib.Nat.{zero-div}
 use lib.ListN.{getD}
 use lib.Ieee.{Float}
-use Rattle.wire.specs.Bits.{wordOf, spread}
+use Rattle.wire.specs.Internal.Words.{wordOf, spread}
 use Rattle.wire.proofs.MaskLaws.{bit-spread}
 use Rattle.settings.specs.declared.types.Limits.{Limits}
 use Rattle.level.specs.Level.{metBits}
 use Rattle.level.specs.Rate.{sampleAfter}
 use Rattle.level.specs.declared.rate.Sample.{Sample}
-use Rattle.condition.specs.Command.{ackBits}
-use Rattle.alarm.specs.Held.{Six, HH, H, L, LL, ROCPos, ROCNeg, place}
-use Rattle.alarm.specs.Digital.{digitalStep, conditionSet}
-use Rattle.alarm.specs.Packed.{restAfter}
-use Rattle.alarm.specs.Analog.{analogStep}
+use Rattle.condition.specs.Internal.Outcome.{ackBits}
+use Rattle.alarm.specs.Internal.Held.{Six, HH, H, L, LL, ROCPos, ROCNeg, place}
+use Rattle.alarm.specs.Internal.Digital.{digitalStep, conditionSet}
+use Rattle.alarm.specs.Internal.Packed.{restAfter}
+use Rattle.alarm.specs.Internal.Analog.{analogStep}
 use Rattle.alarm.specs.declared.state.State.{State}
 
 -- what was not in alarm is not kept in alarm, whether it would be cleared or not

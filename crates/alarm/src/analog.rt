@@ -1,9 +1,9 @@
 // One scan of an analog alarm.
 ghost use mathlib.Core.Path.{_≡_};
 ghost use Prim.Native.Nat.{_<_};
-ghost use Rattle.wire.specs.Bits.{wordOf, spread};
-ghost use Rattle.alarm.specs.Analog.{analogStep};
-ghost use Rattle.alarm.specs.Packed.{readyBits, startsAfter, resampled, decided};
+ghost use Rattle.wire.specs.Internal.Words.{wordOf, spread};
+ghost use Rattle.alarm.specs.Internal.Analog.{analogStep};
+ghost use Rattle.alarm.specs.Internal.Packed.{readyBits, startsAfter, resampled, decided};
 use crate::rest::analog_rest;
 use crate::state::State;
 use crate::state::Stepped;

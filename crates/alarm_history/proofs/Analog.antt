@@ -7,22 +7,22 @@ use lib.ListN.{getD}
 use lib.Ieee.{Float}
 use Rattle.history.specs.Past.{since, holds, rowStart}
 use Rattle.history.specs.Demand.{Facts}
-use Rattle.history.specs.Condition.{kept, told, acknowledges, returns, activates, alarmAfter, unackedAfter}
+use Rattle.history.specs.Internal.Condition.{kept, told, acknowledges, returns, activates, alarmAfter, unackedAfter}
 use Rattle.history.specs.Words.{Demand3}
 use Rattle.history.proofs.Condition.{kept-count}
 use Rattle.history.proofs.Demand.{demand}
-use Rattle.condition.specs.Mark.{Marks, marksAfter}
+use Rattle.condition.specs.Internal.Mark.{Marks, marksAfter}
 use Rattle.settings.specs.declared.types.Limits.{Limits}
-use Rattle.condition.specs.Command.{ackBits, faults}
-use Rattle.condition.specs.Outcome.{toldOf}
+use Rattle.condition.specs.Internal.Outcome.{ackBits, toldOf}
+use Rattle.condition.specs.Command.{faults}
 use Rattle.level.specs.Level.{metBits, freesBits}
 use Rattle.level.specs.Rate.{sampleAfter}
 use Rattle.level.specs.declared.rate.Sample.{Sample}
-use Rattle.alarm.specs.Held.{Six, HH, H, L, LL, ROCPos, ROCNeg, Side, High, Low, place, AnalogHeld}
-use Rattle.alarm.specs.Analog.{analogRequired, analogEnabled, sideMet, analogReady, analogAfter}
+use Rattle.alarm.specs.Internal.Held.{Six, HH, H, L, LL, ROCPos, ROCNeg, Side, High, Low, place, AnalogHeld}
+use Rattle.alarm.specs.Internal.Analog.{analogRequired, analogEnabled, sideMet, analogReady, analogAfter}
 use Rattle.alarm_history.specs.Scans.{Scan, previous, enabled, countReset}
 use Rattle.alarm_history.specs.Analog.{sampleIn, met, run, lasted, beside, analogFacts}
-use Rattle.alarm_history.specs.After.{analogRun, analogFrom, analogMarksAfter, analogMarks}
+use Rattle.alarm_history.specs.Internal.After.{analogRun, analogFrom, analogMarksAfter, analogMarks}
 use Rattle.alarm_history.specs.Report.{own, marksIn}
 use Rattle.alarm_history.proofs.Marks.{marksKept, marks-kept}
 use Rattle.alarm_history.proofs.Modes.{disabled-next, suppressed-next}

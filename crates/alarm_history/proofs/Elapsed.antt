@@ -5,11 +5,11 @@ use mathlib.Core.List.{List, [], _∷_}
 use mathlib.Core.Bool.{Bool}
 use lib.Ieee.{Float}
 use Rattle.settings.specs.declared.types.Limits.{Limits}
-use Rattle.alarm.specs.Held.{Side}
+use Rattle.alarm.specs.Internal.Held.{Side}
 use Rattle.alarm_history.specs.Scans.{Scan, previous, countReset, lastTime, latest}
 use Rattle.alarm_history.specs.Digital as Digital
 use Rattle.alarm_history.specs.Analog as Analog
-use Rattle.alarm_history.specs.After.{digitalRun, analogRun}
+use Rattle.alarm_history.specs.Internal.After.{digitalRun, analogRun}
 use Rattle.alarm_history.specs.Elapsed.{elapsed, elapsedIn, resetStamp}
 use Rattle.alarm_history.proofs.Digital.{digital-run}
 use Rattle.alarm_history.proofs.Analog.{analog-run}

@@ -8,10 +8,10 @@ use lib.Ieee.{Float, binary32, ofBits, ofInt, sub, add, mul, div, neg, lt, le, e
 use Rattle.history.specs.Past.{since, countFrom, rowStart}
 use Rattle.history.specs.Demand.{inAlarm, unacknowledged, count}
 use Rattle.settings.specs.declared.types.Limits.{Limits}
-use Rattle.condition.specs.Command.{ackBits}
+use Rattle.condition.specs.Internal.Outcome.{ackBits}
 use Rattle.level.specs.Level.{metBits, freesBits}
 use Rattle.level.specs.Rate.{newRate, sampleAfter}
-use Rattle.alarm.specs.Held.{HH, H, ROCPos}
+use Rattle.alarm.specs.Internal.Held.{HH, H, ROCPos}
 use Rattle.alarm_history.specs.Scans.{Scan}
 use Rattle.alarm_history.specs.Digital.{In, digitalFacts}
 use Rattle.alarm_history.specs.Analog.{analogFacts, sampleIn}

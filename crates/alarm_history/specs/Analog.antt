@@ -8,18 +8,18 @@ use lib.Ieee.{Float}
 use Rattle.history.specs.Past.{Fact, holds, rowStart}
 use Rattle.history.specs.Demand.{Facts}
 use Rattle.settings.specs.declared.types.Limits.{Limits}
-use Rattle.condition.specs.Command.{ackBits}
-use Rattle.level.specs.Level.{zero, metBits, freesBits}
+use Rattle.condition.specs.Internal.Outcome.{ackBits}
+use Rattle.level.specs.Level.{zeroReal, metBits, freesBits}
 use Rattle.level.specs.Rate.{sampleAfter}
 use Rattle.level.specs.declared.rate.Sample.{Sample}
-use Rattle.alarm.specs.Held.{Six, HH, H, L, LL, ROCPos, ROCNeg, Side, High, Low, place}
-use Rattle.alarm.specs.Analog.{analogRequired, sideAlarm}
+use Rattle.alarm.specs.Internal.Held.{Six, HH, H, L, LL, ROCPos, ROCNeg, Side, High, Low, place}
+use Rattle.alarm.specs.Internal.Analog.{analogRequired, sideAlarm}
 use Rattle.alarm_history.specs.Scans.{Scan, previous, enabled, countReset}
 
 module _ (flags duration : ℕ) (g : Limits) (period : ℕ) where
   -- the sample, its time and the rate, worked out from the scans
   unfoldable pub sampleIn : List (Scan Float) → Sample
-  sampleIn [] = record { value = zero; rate = zero; at = 0 }
+  sampleIn [] = record { value = zeroReal; rate = zeroReal; at = 0 }
   sampleIn (s ∷ past) = sampleAfter period (enabled s past) (holds enabled past) (s .time) (s .reading) (sampleIn past)
 
   abbrev pub met : Six → Fact (Scan Float)

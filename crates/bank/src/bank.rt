@@ -1,7 +1,7 @@
 // A bank, and how it begins.
 ghost use mathlib.Core.Path.{_≡_};
-ghost use Rattle.alarm.specs.Held.{freshState};
-ghost use Rattle.bank.specs.Bank.{freshBank, loadOf};
+ghost use Rattle.alarm.specs.Internal.Held.{freshState};
+ghost use Rattle.bank.specs.Internal.Bank.{freshBank, loadOf};
 use alarm::state::State;
 use reader::read::read;
 use settings::reply::Reply;

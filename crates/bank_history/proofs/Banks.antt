@@ -8,9 +8,9 @@ use borrow.Author.Tests.{lt-ltb, le-ltb}
 use lib.Ieee.{Float}
 use lib.ListN.{length, getD, replicate, length-replicate, getD-replicate}
 use Rattle.wire.specs.Bits.{bit}
-use Rattle.condition.specs.Mark.{marksAfter, timeStampAfter, noMarks}
+use Rattle.condition.specs.Internal.Mark.{marksAfter, timeStampAfter, noMarks}
 use Rattle.settings.specs.Alarm.{blank}
-use Rattle.settings.specs.Sound.{Sound}
+use Rattle.settings.specs.Internal.Sound.{Sound}
 use Rattle.settings.specs.declared.types.Alarm.{Alarm}
 use Rattle.settings.specs.declared.types.Settings.{Settings}
 use Rattle.settings.specs.declared.types.Limits.{Limits}
@@ -18,24 +18,24 @@ use Rattle.settings.specs.declared.types.Severities.{Severities}
 use Rattle.settings.specs.declared.types.Kind.{Kind}
 use Rattle.settings.specs.declared.types.Kind.the-variants.{Digital, Analog}
 use Rattle.settings.specs.declared.types.Form.the-variants.{Digital as DigitalForm}
-use Rattle.image.specs.Accepted.{AcceptedFrom}
-use Rattle.alarm.specs.Held.{freshState, lookDigital, lookAnalog, runOf, cellOf, Six, HH, H, L, LL, ROCPos, ROCNeg, Side, High, Low, place}
-use Rattle.alarm.specs.Digital.{digitalStep}
-use Rattle.alarm.specs.Analog.{analogStep}
-use Rattle.alarm.specs.Step.{stepKind}
+use Rattle.image.specs.Internal.Accepted.{AcceptedFrom}
+use Rattle.alarm.specs.Internal.Held.{freshState, lookDigital, lookAnalog, runOf, cellOf, Six, HH, H, L, LL, ROCPos, ROCNeg, Side, High, Low, place}
+use Rattle.alarm.specs.Internal.Digital.{digitalStep}
+use Rattle.alarm.specs.Internal.Analog.{analogStep}
+use Rattle.alarm.specs.Internal.Step.{stepKind}
 use Rattle.alarm.specs.declared.state.State.{State}
 use Rattle.alarm.specs.declared.state.Stepped.{Stepped}
 use Rattle.alarm_history.specs.Scans.{Scan}
-use Rattle.alarm_history.specs.After.{freshAnalog, digitalRun, analogRun, digitalMarks, analogMarks}
+use Rattle.alarm_history.specs.Internal.After.{freshAnalog, digitalRun, analogRun, digitalMarks, analogMarks}
 use Rattle.alarm_history.specs.Elapsed.{resetStamp}
 use Rattle.scan_record.specs.Part.{timeOf}
-use Rattle.marks.specs.Marks.{marksAt, startAt, requiredOf}
+use Rattle.marks.specs.Internal.Marks.{marksAt, startAt, requiredOf}
 use Rattle.marks.proofs.Reading.{marks-length, mark-read, reset-read}
-use Rattle.steps.specs.Plan.{stepPart, stepAt, planOf}
+use Rattle.steps.specs.Internal.Plan.{stepPart, stepAt, planOf}
 use Rattle.steps.proofs.Alarms.{length-placed, placed-below}
 use Rattle.steps.proofs.Counts.{word-at}
-use Rattle.bank.specs.Bank.{freshBank}
-use Rattle.bank.specs.Scan.{alarmsOf, planFor, bankAfter}
+use Rattle.bank.specs.Internal.Bank.{freshBank}
+use Rattle.bank.specs.Internal.Scan.{alarmsOf, planFor, bankAfter}
 use Rattle.bank.specs.declared.bank.Bank.{Bank}
 use Rattle.bank_history.specs.Scans.{digitalScan, analogScan}
 use Rattle.bank_history.proofs.Views.{DigitalView, digital-view, AnalogView, analog-view}

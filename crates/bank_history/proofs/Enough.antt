@@ -9,24 +9,24 @@ use native.Mathlib.Nat.{le-refl}
 use lib.Dec.{ltb}
 use lib.Count.{ones, ones-step}
 use lib.ListN.{length, getD}
-use Rattle.wire.specs.Bits.{wordOf}
-use Rattle.settings.specs.Reply.{refusal}
+use Rattle.wire.specs.Internal.Words.{wordOf}
+use Rattle.settings.specs.Refusals.{refusal}
 use Rattle.settings.specs.declared.reply.Reply.the-variants.{Accepted}
 use Rattle.settings.specs.declared.types.Kind.{Kind}
 use Rattle.settings.specs.declared.types.Kind.the-variants.{Digital, Analog}
-use Rattle.alarm.specs.Held.{lookDigital, lookAnalog}
-use Rattle.alarm.specs.Digital.{digitalEvents, digitalStep}
-use Rattle.alarm.specs.Analog.{analogEvents, analogStep}
-use Rattle.alarm.specs.Step.{stepKind}
+use Rattle.alarm.specs.Internal.Held.{lookDigital, lookAnalog}
+use Rattle.alarm.specs.Internal.Digital.{digitalEvents, digitalStep}
+use Rattle.alarm.specs.Internal.Analog.{analogEvents, analogStep}
+use Rattle.alarm.specs.Internal.Step.{stepKind}
 use Rattle.alarm.specs.declared.state.State.{State}
 use Rattle.alarm.specs.declared.step.Reading.{Reading}
 use Rattle.alarm.specs.declared.step.Reading.the-variants.{Digital as Bit, Level}
 use Rattle.alarm.proofs.Laws.{number, digital-most, analog-most}
 use Rattle.scan_record.specs.Part.{timeOf}
-use Rattle.steps.specs.Plan.{stepPart, stepAt, countOf}
+use Rattle.steps.specs.Internal.Plan.{stepPart, stepAt, countOf}
 use Rattle.steps.proofs.Logs.{up-to-count}
 use Rattle.steps.proofs.Counts.{word-at, word-small}
-use Rattle.bank.specs.Scan.{checkOf, alarmsOf, planFor, eventsIn, bankAfter, refusedScan, checkedScan, scanOf}
+use Rattle.bank.specs.Internal.Scan.{checkOf, alarmsOf, planFor, eventsIn, bankAfter, refusedScan, checkedScan, scanOf}
 use Rattle.bank.specs.declared.bank.Bank.{Bank}
 use Rattle.bank.specs.declared.parts.Answer.the-variants.{Events}
 use Rattle.bank.proofs.Scans.{accepted-scan}

@@ -10,8 +10,8 @@ use Rattle.history.specs.Demand.{inAlarm}
 use Rattle.settings.specs.declared.types.Kind.the-variants.{Digital}
 use Rattle.alarm_history.specs.Scans.{lastTime}
 use Rattle.alarm_history.specs.Report.{alarmStamp, ackStamp, returnStamp}
-use Rattle.level.specs.Level.{zero}
-use Rattle.report.specs.Status.{noStatus}
+use Rattle.level.specs.Level.{zeroReal}
+use Rattle.report.specs.Internal.Status.{noStatus}
 use Rattle.bank_history.specs.Said.{saidKind}
 
 scan : ℕ → ℕ → ℕ → List ℕ
@@ -29,6 +29,6 @@ listing-condition = refl
 
 -- and of the whole alarm: a run of its condition began with the last scan
 listing-whole : saidKind (Digital 700) 7 100 1 0 scans .alarm
-    ≡ record { enabled = true; suppressed = false; infaulted = false; severityinv = false; rate = zero; high = 0; low = 0 }
+    ≡ record { enabled = true; suppressed = false; infaulted = false; severityinv = false; rate = zeroReal; high = 0; low = 0 }
 unfolding scan scans value bytes since rowStart
 listing-whole = refl

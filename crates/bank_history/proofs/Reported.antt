@@ -10,29 +10,29 @@ use lib.Ieee.{Float}
 use borrow.Author.Tests.{ltb-true, ltb-false}
 use Rattle.history.specs.Words.{Demand3}
 use Rattle.history.proofs.Condition.{kept-alarm, kept-unacked}
-use Rattle.condition.specs.Mark.{Marks}
-use Rattle.settings.specs.Sound.{Sound}
+use Rattle.condition.specs.Internal.Mark.{Marks}
+use Rattle.settings.specs.Internal.Sound.{Sound}
 use Rattle.settings.specs.declared.reply.Reply.the-variants.{Accepted}
 use Rattle.settings.specs.declared.types.Limits.{Limits}
 use Rattle.settings.specs.declared.types.Severities.{Severities}
 use Rattle.settings.specs.declared.types.Kind.{Kind}
 use Rattle.settings.specs.declared.types.Kind.the-variants.{Digital, Analog}
 use Rattle.settings.specs.declared.types.Form.the-variants.{Analog as AnalogForm}
-use Rattle.alarm.specs.Held.{DigitalHeld, lookDigital, Six, HH, H, L, LL, ROCPos, ROCNeg, place, AnalogHeld, lookAnalog}
+use Rattle.alarm.specs.Internal.Held.{DigitalHeld, lookDigital, Six, HH, H, L, LL, ROCPos, ROCNeg, place, AnalogHeld, lookAnalog}
 use Rattle.alarm.specs.declared.state.State.{State}
 use Rattle.alarm_history.specs.Scans.{Scan, latest}
 use Rattle.alarm_history.specs.Digital.{In, digitalFacts}
 use Rattle.alarm_history.specs.Analog.{analogFacts}
-use Rattle.alarm_history.specs.After.{digitalFrom}
+use Rattle.alarm_history.specs.Internal.After.{digitalFrom}
 use Rattle.alarm_history.specs.Report.{marksIn}
 use Rattle.alarm_history.proofs.Digital.{digital-run, digital-report, digital-demand}
 use Rattle.alarm_history.proofs.Analog.{analog-run, analog-report, analog-demand}
 use Rattle.alarm_history.proofs.Elapsed.{digital-reset-stamp, analog-reset-stamp}
-use Rattle.bank.specs.Scan.{alarmsOf}
+use Rattle.bank.specs.Internal.Scan.{alarmsOf}
 use Rattle.bank.specs.declared.bank.Bank.{Bank}
-use Rattle.report.specs.Status.{noStatus, digitalStatuses, analogStatuses, statusesOf}
-use Rattle.report.specs.Whole.{digitalWhole, analogWhole, wholeKind, wholeOf}
-use Rattle.report.specs.Report.{reportAt}
+use Rattle.report.specs.Internal.Status.{noStatus, digitalStatuses, analogStatuses, statusesOf}
+use Rattle.report.specs.Internal.Whole.{digitalWhole, analogWhole, wholeKind, wholeOf}
+use Rattle.report.specs.Internal.Report.{reportAt}
 use Rattle.report.specs.declared.status.Status.{Status}
 use Rattle.report.specs.declared.report.AlarmReport.{AlarmReport}
 use Rattle.report.proofs.Reports.{status-digital, status-analog}

@@ -8,18 +8,18 @@ use lib.Ieee.{Float}
 use Rattle.wire.specs.Bits.{bit}
 use Rattle.wire.proofs.WordLaws.{bit-word}
 use Rattle.condition.specs.Command.{countResets}
-use Rattle.condition.specs.Mark.{Marks, marksAfter, timeStampAfter}
+use Rattle.condition.specs.Internal.Mark.{Marks, marksAfter, timeStampAfter}
 use Rattle.settings.specs.declared.types.Limits.{Limits}
-use Rattle.alarm.specs.Held.{DigitalHeld, lookDigital, Six, HH, H, L, LL, ROCPos, ROCNeg, place, AnalogHeld, lookAnalog}
-use Rattle.alarm.specs.Digital.{digitalRequired, digitalAfter, digitalEvents, digitalStep}
-use Rattle.alarm.specs.Analog.{analogRequired, analogAfter, analogEvents, analogStep}
+use Rattle.alarm.specs.Internal.Held.{DigitalHeld, lookDigital, Six, HH, H, L, LL, ROCPos, ROCNeg, place, AnalogHeld, lookAnalog}
+use Rattle.alarm.specs.Internal.Digital.{digitalRequired, digitalAfter, digitalEvents, digitalStep}
+use Rattle.alarm.specs.Internal.Analog.{analogRequired, analogAfter, analogEvents, analogStep}
 use Rattle.alarm.specs.declared.state.State.{State}
 use Rattle.alarm.specs.declared.state.Stepped.{Stepped}
 use Rattle.alarm.proofs.Laws.{look-digital, look-analog}
 use Rattle.alarm_history.specs.Scans.{Scan}
-use Rattle.alarm_history.specs.After.{digitalRun, analogRun, digitalMarksAfter, digitalMarks, analogMarksAfter, analogMarks}
+use Rattle.alarm_history.specs.Internal.After.{digitalRun, analogRun, digitalMarksAfter, digitalMarks, analogMarksAfter, analogMarks}
 use Rattle.alarm_history.specs.Elapsed.{resetStamp}
-use Rattle.marks.specs.Marks.{marksAt, startAt}
+use Rattle.marks.specs.Internal.Marks.{marksAt, startAt}
 
 -- ---- a digital alarm
 

@@ -13,12 +13,12 @@ use Rattle.reader.specs.Read.{readOf}
 use Rattle.settings.specs.declared.types.Kind.{Kind}
 use Rattle.settings.specs.declared.types.Kind.the-variants.{Digital, Analog}
 use Rattle.settings.specs.declared.reply.Reply.the-variants.{Accepted}
-use Rattle.alarm.specs.Held.{Six, place}
+use Rattle.alarm.specs.Internal.Held.{Six, place}
 use Rattle.alarm_history.specs.Digital.{In, digitalFacts}
 use Rattle.alarm_history.specs.Analog.{analogFacts}
-use Rattle.bank.specs.Bank.{loadOf}
-use Rattle.report.specs.Status.{noStatus}
-use Rattle.report.specs.Report.{reportOf}
+use Rattle.bank.specs.Internal.Bank.{loadOf}
+use Rattle.report.specs.Internal.Status.{noStatus}
+use Rattle.report.specs.Internal.Report.{reportOf}
 use Rattle.report.specs.declared.status.Status.{Status}
 use Rattle.bank_history.specs.Calls.{Call, after, accepted}
 use Rattle.bank_history.specs.Scans.{digitalScan, analogScan}

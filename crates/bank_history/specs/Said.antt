@@ -4,15 +4,16 @@ use mathlib.Core.Bool.{Bool, not}
 use mathlib.Core.List.{List, [], _∷_, map}
 use lib.Ieee.{Float}
 use Rattle.history.specs.Demand.{inAlarm, unacknowledged}
-use Rattle.condition.specs.Mark.{Marks, severityInvalid}
+use Rattle.condition.specs.Internal.Mark.{Marks}
+use Rattle.condition.specs.Severity.{severityInvalid}
 use Rattle.settings.specs.declared.types.Limits.{Limits}
 use Rattle.settings.specs.declared.types.Severities.{Severities}
 use Rattle.settings.specs.declared.types.Kind.{Kind}
 use Rattle.settings.specs.declared.types.Kind.the-variants.{Digital, Analog}
 use Rattle.settings.specs.declared.types.Alarm.{Alarm}
 use Rattle.settings.specs.declared.reply.Reply.the-variants.{Accepted}
-use Rattle.level.specs.Level.{zero}
-use Rattle.alarm.specs.Held.{Six, HH, H, L, LL, ROCPos, ROCNeg, High, Low}
+use Rattle.level.specs.Level.{zeroReal}
+use Rattle.alarm.specs.Internal.Held.{Six, HH, H, L, LL, ROCPos, ROCNeg, High, Low}
 use Rattle.alarm_history.specs.Scans.{Scan, disabledIn, suppressedIn, faultedIn, countReset, lastTime}
 use Rattle.alarm_history.specs.Elapsed.{elapsedIn}
 use Rattle.alarm_history.specs.Digital as Digital
@@ -20,8 +21,8 @@ use Rattle.alarm_history.specs.Digital.{In, digitalFacts}
 use Rattle.alarm_history.specs.Analog as Analog
 use Rattle.alarm_history.specs.Analog.{analogFacts, sampleIn}
 use Rattle.alarm_history.specs.Report.{marksIn}
-use Rattle.report.specs.Status.{noStatus}
-use Rattle.report.specs.Whole.{anyInvalid}
+use Rattle.report.specs.Internal.Status.{noStatus}
+use Rattle.report.specs.Internal.Whole.{anyInvalid}
 use Rattle.report.specs.declared.status.Status.{Status}
 use Rattle.report.specs.declared.report.AlarmReport.{AlarmReport}
 use Rattle.bank_history.specs.Scans.{digitalScan, analogScan}
@@ -40,7 +41,7 @@ digitalSaid severity flags duration scans =
         suppressed = suppressedIn scans;
         infaulted = faultedIn scans;
         severityinv = severityInvalid severity;
-        rate = zero;
+        rate = zeroReal;
         high = elapsedIn duration (Digital.run flags duration) scans;
         low = 0;
       };

@@ -2,7 +2,6 @@
 -- act in every scan that sets them.
 use Prim.Native.Nat.{ℕ, _+_}
 use mathlib.Core.Bool.{Bool, not, _&&_, _||_}
-use mathlib.Core.List.{List, [], _∷_}
 use Rattle.wire.specs.Bits.{bit}
 
 -- set, and clear in the previous word
@@ -44,6 +43,3 @@ acksOne word previous k = acksAll word previous || rises word previous (13 + k) 
 -- InFault
 abbrev pub faults : ℕ → Bool
 faults word = bit word 25
-
-unfoldable pub ackBits : ℕ → ℕ → List Bool
-ackBits w p = acksOne w p 0 ∷ acksOne w p 1 ∷ acksOne w p 2 ∷ acksOne w p 3 ∷ acksOne w p 4 ∷ acksOne w p 5 ∷ []

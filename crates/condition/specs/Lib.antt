@@ -1,4 +1,4 @@
 pub mod Command
-pub mod Outcome
-pub mod Mode
-pub mod Mark
+pub mod Severity
+pub mod Event
+pub mod Internal

@@ -1,8 +1,9 @@
 // Acknowledgements and resets that a command word commands.
 ghost use mathlib.Core.Path.{_≡_};
 ghost use Prim.Native.Nat.{_<_};
-ghost use Rattle.wire.specs.Bits.{wordOf, spread};
-ghost use Rattle.condition.specs.Command.{resets, acksAll, ackBits};
+ghost use Rattle.wire.specs.Internal.Words.{wordOf, spread};
+ghost use Rattle.condition.specs.Command.{resets, acksAll};
+ghost use Rattle.condition.specs.Internal.Outcome.{ackBits};
 use wire::bits::spread6;
 
 pub fn acks_all(word: u32, previous: u32) -> bool

@@ -1,7 +1,7 @@
 // Counts and stamps of a condition, from the events of a scan.
 ghost use mathlib.Core.Path.{_≡_};
-ghost use Rattle.history.specs.Condition.{countUp, countAfter};
-ghost use Rattle.condition.specs.Mark.{ackStampAfter};
+ghost use Rattle.history.specs.Internal.Condition.{countUp, countAfter};
+ghost use Rattle.condition.specs.Internal.Mark.{ackStampAfter};
 
 fn count_up(n: u64) -> u64
     ensures { λ r. ⌜ r ≡ countUp n ⌝ }

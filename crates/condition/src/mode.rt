@@ -1,8 +1,9 @@
 // The modes of an alarm.
 ghost use mathlib.Core.Path.{_≡_};
 ghost use Prim.Native.Nat.{_<_};
-ghost use Rattle.wire.specs.Bits.{bit, wordOf};
-ghost use Rattle.condition.specs.Mode.{modeBits};
+ghost use Rattle.wire.specs.Bits.{bit};
+ghost use Rattle.wire.specs.Internal.Words.{wordOf};
+ghost use Rattle.condition.specs.Internal.Mode.{modeBits};
 use wire::bits::word3;
 use wire::bits::word6;
 

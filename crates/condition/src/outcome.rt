@@ -2,8 +2,8 @@
 ghost use mathlib.Core.Path.{_≡_};
 ghost use mathlib.Core.Bool.{cond};
 ghost use Prim.Native.Nat.{_<_};
-ghost use Rattle.wire.specs.Bits.{wordOf};
-ghost use Rattle.condition.specs.Outcome.{outcome};
+ghost use Rattle.wire.specs.Internal.Words.{wordOf};
+ghost use Rattle.condition.specs.Internal.Outcome.{outcome};
 use wire::bits::word6;
 
 // One scan of one condition. Of `digit`, bit 0 is in alarm and bit 1 unacknowledged. The result has these two anew, bit 2

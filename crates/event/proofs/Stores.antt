@@ -5,16 +5,16 @@ use Prim.Native.Nat.{ℕ, suc, _+_, _-_, _/_, _%_, _≤_, _<_}
 use native.Mathlib.Numerals.{add-one}
 use native.Mathlib.Omega.{arith}
 use lib.Dec.{eqb}
-use lib.ListN.{length, set}
+use lib.ListN.{length, set, length-append}
 use lib.Seq.{sets}
 use mathlib.Core.Bool.{Bool, true, false, cond}
 use borrow.Author.Tests.{eq-eqb, ne-eqb}
-use lib.ListN.{length-append}
 use Rattle.settings.specs.declared.types.Kind.{Kind}
 use Rattle.wire.specs.Number.{bytes}
 use Rattle.wire.proofs.Laws.{length-bytes, sets-append}
-use Rattle.alarm.specs.Events.{Event, eventAt}
-use Rattle.event.specs.Record.{eventBytes, logBytes, eventsOf}
+use Rattle.condition.specs.Event.{Event, eventBytes, logBytes}
+use Rattle.alarm.specs.Internal.Events.{eventAt}
+use Rattle.event.specs.Internal.Bits.{eventsOf}
 
 -- two bytes, two zeros, and the rest
 pub tail-stores : (l : List ℕ) (at : ℕ) (xs ys : List ℕ) → length xs ≡ 2

@@ -3,7 +3,7 @@ ghost use mathlib.Core.Path.{_≡_};
 ghost use Prim.Native.Nat.{_-_, _<_, _≤_};
 ghost use mathlib.Core.List.{[], _∷_};
 ghost use lib.ListN.{getD};
-ghost use Rattle.alarm.specs.Events.{kindAt, conditionAt, actingAt};
+ghost use Rattle.alarm.specs.Internal.Events.{kindAt, conditionAt, actingAt};
 use condition::severity::acting_severity;
 use settings::types::Kind;
 use settings::types::Severities;

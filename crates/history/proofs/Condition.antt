@@ -8,7 +8,7 @@ use borrow.Author.Tests.{ltb-true, ltb-false}
 use lib.Dec.{ltb}
 use Rattle.history.specs.Past.{since, countFrom}
 use Rattle.history.specs.Demand.{Facts, stays, inAlarm, due, activation, unanswered, unacknowledged, count}
-use Rattle.history.specs.Condition.{alarmAfter, unackedAfter, countUp, countAfter, activates, told, kept}
+use Rattle.history.specs.Internal.Condition.{alarmAfter, unackedAfter, countUp, countAfter, activates, told, kept}
 
 -- ---- one scan, on Booleans and numbers
 

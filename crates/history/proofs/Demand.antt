@@ -4,7 +4,7 @@ use mathlib.Core.List.{List}
 use mathlib.Core.Bool.{Bool, and-eq-true-iff}
 use Rattle.history.specs.Past.{since, countFrom}
 use Rattle.history.specs.Demand.{Facts, stays, due, activation, unanswered}
-use Rattle.history.specs.Condition.{kept}
+use Rattle.history.specs.Internal.Condition.{kept}
 use Rattle.history.specs.Words.{Demand3}
 use Rattle.history.proofs.Words.{since-words, words-since, count-words}
 use Rattle.history.proofs.Condition.{alarm-since, kept-alarm, kept-unacked, kept-count}

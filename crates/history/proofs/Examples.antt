@@ -5,7 +5,7 @@ use mathlib.Core.List.{List, [], _∷_}
 use mathlib.Core.Bool.{Bool, true, false, not, _&&_}
 use Rattle.history.specs.Past.{holds, since, countFrom}
 use Rattle.history.specs.Demand.{Facts, inAlarm, unacknowledged, count}
-use Rattle.history.specs.Condition.{Told, Kept, keptAfter, kept}
+use Rattle.history.specs.Internal.Condition.{Told, Kept, keptAfter, kept}
 
 -- ---- one scan
 

@@ -5,7 +5,7 @@ use mathlib.Core.List.{List}
 use mathlib.Core.Bool.{Bool, true, false, not, _&&_, _||_, cond, and-false, and-eq-true-iff}
 use native.Mathlib.Omega.{arith}
 use Rattle.history.specs.Demand.{Facts, cleared, dueGiven}
-use Rattle.history.specs.Condition.{Told, Kept, acknowledges, returns, activates, keptAfter, kept}
+use Rattle.history.specs.Internal.Condition.{Told, Kept, acknowledges, returns, activates, keptAfter, kept}
 use Rattle.history.proofs.Condition.{kept-count}
 
 -- ---- due is not cleared

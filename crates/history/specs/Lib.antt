@@ -1,4 +1,4 @@
 pub mod Past
 pub mod Demand
-pub mod Condition
 pub mod Words
+pub mod Internal

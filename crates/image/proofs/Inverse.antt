@@ -11,15 +11,16 @@ use lib.Dec.{T, leb, ltb}
 use lib.ListN.{length, getD}
 use lib.Pow.{areBytes}
 use lib.Ieee.{binary32, toBits, lt, add, sub}
-use Rattle.wire.specs.Number.{number, part, words}
+use Rattle.wire.specs.Number.{number, part}
+use Rattle.wire.specs.Internal.Words.{words}
 use Rattle.wire.specs.Real.{bounded, realAt}
 use Rattle.wire.proofs.Laws.{and-true, part-suc, wordsAt, words-back, number-lt}
 use Rattle.wire.proofs.Reals.{pattern-back}
-use Rattle.settings.specs.Reply.{refusal}
+use Rattle.settings.specs.Refusals.{refusal}
 use Rattle.settings.specs.Rules.{onHH, onH, onL, onLL, nonNegative, limitsInRange, durationInRange, periodInRange, inRange, ordered, rising, lowOf, highOf, banded, apart}
 use Rattle.reader.specs.Record.{digitalAlarm, digitalRecord, severitiesAt, limitsAt, analogAlarm, analogRecord, sizeOf, recordAt}
-use Rattle.image.specs.Write.{severityWords, limitWords, digitalBytes, analogBytes, kindBytes, recordBytes}
-use Rattle.settings.specs.Sound.{Bounded, Rising, Banded, Sound}
+use Rattle.image.specs.Internal.Write.{severityWords, limitWords, digitalBytes, analogBytes, kindBytes, recordBytes}
+use Rattle.settings.specs.Internal.Sound.{Bounded, Rising, Banded, Sound}
 use Rattle.settings.specs.declared.types.Limits.{Limits}
 use Rattle.settings.specs.declared.types.Alarm.{Alarm}
 use Rattle.settings.specs.declared.types.Form.{Form}

@@ -19,10 +19,10 @@ use Rattle.reader.specs.Count.{countAt}
 use Rattle.reader.specs.Record.{recordAt, sizeOf}
 use Rattle.reader.specs.Section.{recordsFrom, sectionAt, onRecord, onCount}
 use Rattle.reader.specs.Read.{readOf, restOf, onSection, refusedBy}
-use Rattle.image.specs.Write.{recordsBytes, sectionBytes, imageOf, hasRoom, writtenOf, bufferOf}
-use Rattle.settings.specs.Reply.{refusal}
-use Rattle.settings.specs.Sound.{SoundAlarm}
-use Rattle.image.specs.Accepted.{AcceptedFrom}
+use Rattle.image.specs.Internal.Write.{recordsBytes, sectionBytes, imageOf, hasRoom, writtenOf, imageBuffer}
+use Rattle.settings.specs.Refusals.{refusal}
+use Rattle.settings.specs.Internal.Sound.{SoundAlarm}
+use Rattle.image.specs.Internal.Accepted.{AcceptedFrom}
 use Rattle.settings.specs.declared.types.Alarm.{Alarm}
 use Rattle.settings.specs.declared.types.Form.{Form}
 use Rattle.settings.specs.declared.types.Form.the-variants.{Digital as DigitalForm, Analog as AnalogForm}
@@ -272,19 +272,19 @@ module _ (image : List ℕ) (b : T (areBytes image)) (e : readOf image .reply �
 
   -- a buffer that is long enough gets the image, and reading its front gives the same settings again
   pub written : (out : List ℕ) → length image ≤ length out
-      → (writtenOf settings (length out) ≡ Length (length image)) × (bufferOf settings out ≡ image ++ drop (length image) out)
-  unfolding writtenOf bufferOf
+      → (writtenOf settings (length out) ≡ Length (length image)) × (imageBuffer settings out ≡ image ++ drop (length image) out)
+  unfolding writtenOf imageBuffer
   written out h =
       let t = room-is (length out) ∙ le-leb (length image) (length out) h in
       (rw (t, round-trip), rw (t, round-trip))
 
-  pub read-again : (out : List ℕ) → length image ≤ length out → readOf (take (length image) (bufferOf settings out)) ≡ readOf image
+  pub read-again : (out : List ℕ) → length image ≤ length out → readOf (take (length image) (imageBuffer settings out)) ≡ readOf image
   read-again out h = ap readOf (ap (take (length image)) (written out h .1) ∙ take-at image (drop (length image) out) (length image) refl)
 
   -- a shorter one is refused and left as it was
   pub too-short : (out : List ℕ) → length out < length image
-      → (writtenOf settings (length out) ≡ TooShort (refusal 13 0)) × (bufferOf settings out ≡ out)
-  unfolding writtenOf bufferOf
+      → (writtenOf settings (length out) ≡ TooShort (refusal 13 0)) × (imageBuffer settings out ≡ out)
+  unfolding writtenOf imageBuffer
   too-short out h =
       let t = room-is (length out) ∙ lt-leb (length image) (length out) h in
       (rw t, rw t)

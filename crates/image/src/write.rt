@@ -3,8 +3,8 @@ ghost use mathlib.Core.Path.{_≡_};
 ghost use Prim.Native.Nat.{_+_, _≤_, _<_};
 ghost use lib.ListN.{length};
 ghost use lib.Seq.{sets, slice};
-ghost use Rattle.wire.specs.Number.{words};
-ghost use Rattle.image.specs.Write.{severityWords, limitWords, digitalBytes, analogBytes, recordBytes, recordsBytes, sectionBytes, hasRoom, writtenOf, bufferOf};
+ghost use Rattle.wire.specs.Internal.Words.{words};
+ghost use Rattle.image.specs.Internal.Write.{severityWords, limitWords, digitalBytes, analogBytes, recordBytes, recordsBytes, sectionBytes, hasRoom, writtenOf, imageBuffer};
 use settings::reply::Refusal;
 use settings::types::Alarm;
 use settings::types::Form;
@@ -166,7 +166,7 @@ fn has_room(digital: usize, analog: usize, len: usize) -> bool
 // Fills the front of `out` with the image of settings and leaves the rest, or refuses and leaves every byte.
 pub fn write(settings: Settings, out: &mut [u8]) -> Written
     ensures { λ r. ⌜ r ≡ writtenOf settings (length (now (out .entry))) ⌝ }
-    ensures { λ _. ⌜ now (out .exit) ≡ bufferOf settings (now (out .entry)) ⌝ }
+    ensures { λ _. ⌜ now (out .exit) ≡ imageBuffer settings (now (out .entry)) ⌝ }
 {
     let digital = settings.digital;
     let analog = settings.analog;

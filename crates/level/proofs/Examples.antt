@@ -7,7 +7,7 @@ use lib.Ieee.{Float, binary32, ofBits, ofInt, lt, le, neg, add, sub, mul, div}
 use lib.Dec.{leb·zero}
 use lib.ListN.{getD}
 use Rattle.settings.specs.declared.types.Limits.{Limits}
-use Rattle.level.specs.Level.{zero, metBits, freesBits}
+use Rattle.level.specs.Level.{zeroReal, metBits, freesBits}
 use Rattle.level.specs.Rate.{newRate, sampleAfter}
 use Rattle.level.specs.declared.rate.Sample.{Sample}
 
@@ -18,10 +18,10 @@ real pattern = ofBits binary32 pattern
 abbrev limits : Limits
 limits =
     record {
-      hh = zero;
+      hh = zeroReal;
       h = real 0x44480000;
       l = real 0x44160000;
-      ll = zero;
+      ll = zeroReal;
       deadband = real 0x41A00000;
       rocpos = real 0x40A00000;
       rocneg = real 0x40A00000;
@@ -29,7 +29,7 @@ limits =
 
 -- whether a reading meets the level of this place, H at 1 and L at 2, both enabled, and whether it would clear it
 abbrev met : ℕ → Float → Bool
-met place x = getD (metBits 6 limits 0 x zero) place false
+met place x = getD (metBits 6 limits 0 x zeroReal) place false
 
 abbrev frees : ℕ → Float → Bool
 frees place x = getD (freesBits limits x) place false
@@ -45,13 +45,13 @@ unfolding metBits freesBits le ofBits add
 low = (refl, refl, refl)
 
 -- a level that is not enabled is not met
-disabled-level : metBits 0 limits 0 (real 0x44480000) zero ≡ false ∷ false ∷ false ∷ false ∷ false ∷ false ∷ []
+disabled-level : metBits 0 limits 0 (real 0x44480000) zeroReal ≡ false ∷ false ∷ false ∷ false ∷ false ∷ false ∷ []
 unfolding metBits lt ofBits
 disabled-level = refl
 
 -- the sample 800 at time 0
 abbrev first : Sample
-first = record { value = real 0x44480000; rate = zero; at = 0 }
+first = record { value = real 0x44480000; rate = zeroReal; at = 0 }
 
 -- the first enabled scan stores the reading, with rate 0
 stored : (s : Sample) → sampleAfter 1000 true false 0 (real 0x44480000) s ≡ first
@@ -70,7 +70,7 @@ due = refl
 
 -- rate 5 meets ROCPos and rate -5 meets ROCNeg, and with period 0 neither does
 abbrev rates : ℕ → Float → List Bool
-rates period rate = metBits 0 limits period zero rate
+rates period rate = metBits 0 limits period zeroReal rate
 
 positive : rates 1000 (real 0x40A00000) ≡ false ∷ false ∷ false ∷ false ∷ true ∷ false ∷ []
 unfolding metBits lt le neg ofBits
@@ -85,12 +85,12 @@ unfolding metBits lt ofBits
 no-rates = refl
 
 -- a disabled scan has rate 0, whatever came before
-disabled-scan : (period time : ℕ) (held : Bool) (x : Float) (s : Sample) → sampleAfter period false held time x s .rate ≡ zero
+disabled-scan : (period time : ℕ) (held : Bool) (x : Float) (s : Sample) → sampleAfter period false held time x s .rate ≡ zeroReal
 unfolding sampleAfter
 disabled-scan period time held x s = refl
 
 -- and so has every scan with period 0
-no-period : (enabled held : Bool) (time : ℕ) (x : Float) (s : Sample) → sampleAfter 0 enabled held time x s .rate ≡ zero
+no-period : (enabled held : Bool) (time : ℕ) (x : Float) (s : Sample) → sampleAfter 0 enabled held time x s .rate ≡ zeroReal
 unfolding sampleAfter newRate
 no-period true true time x s = rw leb·zero
 no-period true false time x s = refl

@@ -7,8 +7,8 @@ use lib.Ieee.{Float, binary32, ofBits, lt, le, add, sub, neg}
 use Rattle.settings.specs.Rules.{onHH, onH, onL, onLL}
 use Rattle.settings.specs.declared.types.Limits.{Limits}
 
-abbrev pub zero : Float
-zero = ofBits binary32 0
+abbrev pub zeroReal : Float
+zeroReal = ofBits binary32 0
 
 -- a high level is met at In >= limit, a low one at In <= limit; one that is not enabled is never met
 abbrev pub metHigh : Bool → Float → Float → Bool
@@ -26,10 +26,10 @@ freesLow limit deadband x = lt (add binary32 limit deadband) x
 
 -- a rate is met only where its limit and ROCPeriod exceed 0: ROCPos at rate >= ROCPosLimit, ROCNeg at rate <= -ROCNegLimit
 abbrev pub metPos : Float → ℕ → Float → Bool
-metPos limit period rate = lt zero limit && ltb 0 period && le limit rate
+metPos limit period rate = lt zeroReal limit && ltb 0 period && le limit rate
 
 abbrev pub metNeg : Float → ℕ → Float → Bool
-metNeg limit period rate = lt zero limit && ltb 0 period && le rate (neg limit)
+metNeg limit period rate = lt zeroReal limit && ltb 0 period && le rate (neg limit)
 
 -- the six conditions in order: HH, H, L, LL, ROCPos, ROCNeg
 unfoldable pub metBits : ℕ → Limits → ℕ → Float → Float → List Bool

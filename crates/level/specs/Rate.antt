@@ -4,7 +4,7 @@ use mathlib.Core.Bool.{Bool, not, _&&_, cond}
 use lib.Dec.{leb, eqb}
 use lib.IntN.{pos}
 use lib.Ieee.{Float, binary32, ofBits, ofInt, sub, mul, div}
-use Rattle.level.specs.Level.{zero}
+use Rattle.level.specs.Level.{zeroReal}
 use Rattle.level.specs.declared.rate.Sample.{Sample}
 
 abbrev pub thousand : Float
@@ -16,7 +16,7 @@ periodReal period = ofInt binary32 (pos (min period 16777216))
 
 -- a new sample's rate: the difference from the stored sample, times 1000, over the period, each operation rounded once; 0 for period 0
 unfoldable pub newRate : ℕ → Float → Float → Float
-newRate period stored x = cond (eqb period 0) zero (div binary32 (mul binary32 (sub binary32 x stored) thousand) (periodReal period))
+newRate period stored x = cond (eqb period 0) zeroReal (div binary32 (mul binary32 (sub binary32 x stored) thousand) (periodReal period))
 
 -- at least ROCPeriod has passed since the sample
 abbrev pub sampleDue : ℕ → ℕ → ℕ → Bool
@@ -29,5 +29,5 @@ sampleAfter period enabled held time x s =
     record {
       value = cond (held && not (sampleDue period (s .at) time)) (s .value) x;
       at = cond (held && not (sampleDue period (s .at) time)) (s .at) time;
-      rate = cond (enabled && held) (cond (sampleDue period (s .at) time) (newRate period (s .value) x) (s .rate)) zero;
+      rate = cond (enabled && held) (cond (sampleDue period (s .at) time) (newRate period (s .value) x) (s .rate)) zeroReal;
     }

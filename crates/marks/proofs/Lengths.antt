@@ -6,7 +6,7 @@ use Prim.Native.Nat.{ℕ, zero, suc}
 use lib.ListN.{length, length-set}
 use Rattle.settings.specs.declared.types.Alarm.{Alarm}
 use Rattle.alarm.specs.declared.state.State.{State}
-use Rattle.marks.specs.Marks.{markCondition, markConditions, markAlarm, markAlarms}
+use Rattle.marks.specs.Internal.Marks.{markCondition, markConditions, markAlarm, markAlarms}
 
 pub length-condition : (reset acknowledged returned activated required : Bool) (start time at : ℕ) (xs : List ℕ)
     → length (markCondition reset acknowledged returned activated required start time at xs) ≡ length xs

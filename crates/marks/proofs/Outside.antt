@@ -7,12 +7,12 @@ use native.Mathlib.Omega.{arith}
 use lib.ListN.{getD, set}
 use lib.Seq.{getD-set-other}
 use Rattle.wire.specs.Bits.{bit}
-use Rattle.condition.specs.Mark.{Marks, marksAfter, timeStampAfter}
+use Rattle.condition.specs.Internal.Mark.{Marks, marksAfter, timeStampAfter}
 use Rattle.settings.specs.Alarm.{blank}
 use Rattle.settings.specs.declared.types.Alarm.{Alarm}
-use Rattle.alarm.specs.Held.{freshState}
+use Rattle.alarm.specs.Internal.Held.{freshState}
 use Rattle.alarm.specs.declared.state.State.{State}
-use Rattle.marks.specs.Marks.{marksAt, marksWords, startAt, requiredOf, markCondition, markConditions, markAlarm, markAlarms}
+use Rattle.marks.specs.Internal.Marks.{marksAt, marksWords, startAt, requiredOf, markCondition, markConditions, markAlarm, markAlarms}
 use Rattle.marks.proofs.Runs.{Outside, sets-outside}
 
 module _ (required : Bool) (s : State) (word time : ℕ) where

@@ -9,12 +9,12 @@ use lib.ListN.{length, getD, set, length-set}
 use lib.Seq.{getD-set-same, getD-set-other, sets}
 use Rattle.wire.specs.Bits.{bit}
 use Rattle.wire.proofs.Laws.{below}
-use Rattle.condition.specs.Mark.{Marks, marksAfter, timeStampAfter}
+use Rattle.condition.specs.Internal.Mark.{Marks, marksAfter, timeStampAfter}
 use Rattle.settings.specs.Alarm.{blank}
 use Rattle.settings.specs.declared.types.Alarm.{Alarm}
-use Rattle.alarm.specs.Held.{freshState}
+use Rattle.alarm.specs.Internal.Held.{freshState}
 use Rattle.alarm.specs.declared.state.State.{State}
-use Rattle.marks.specs.Marks.{marksAt, marksWords, startAt, requiredOf, markCondition, markConditions, markAlarm, markAlarms}
+use Rattle.marks.specs.Internal.Marks.{marksAt, marksWords, startAt, requiredOf, markCondition, markConditions, markAlarm, markAlarms}
 use Rattle.marks.proofs.Lengths.{length-conditions}
 pub use Rattle.marks.proofs.Lengths.{marks-length}
 use Rattle.marks.proofs.Runs.{sets-inside}

@@ -11,7 +11,7 @@ use lib.Seq.{set-getD}
 use Rattle.wire.specs.Bits.{bit}
 use Rattle.settings.specs.declared.types.Alarm.{Alarm}
 use Rattle.alarm.specs.declared.state.State.{State}
-use Rattle.marks.specs.Marks.{markCondition, markConditions, markAlarm, markAlarms}
+use Rattle.marks.specs.Internal.Marks.{markCondition, markConditions, markAlarm, markAlarms}
 
 -- four words stored where they stand
 words-still : (xs : List ℕ) (at : ℕ)

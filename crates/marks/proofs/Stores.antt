@@ -8,8 +8,8 @@ use lib.Dec.{eqb}
 use lib.ListN.{set}
 use Rattle.wire.specs.Bits.{bit}
 use Rattle.wire.proofs.WordLaws.{bit-zero}
-use Rattle.condition.specs.Mark.{Marks, marksAfter}
-use Rattle.marks.specs.Marks.{marksAt, markCondition}
+use Rattle.condition.specs.Internal.Mark.{Marks, marksAfter}
+use Rattle.marks.specs.Internal.Marks.{marksAt, markCondition}
 
 module _ (reset required : Bool) (word start time at : ℕ) (xs : List ℕ) where
   -- what the code stores

@@ -11,9 +11,9 @@ use Rattle.wire.specs.Bits.{bit}
 use Rattle.wire.proofs.WordLaws.{bit-shift}
 use Rattle.settings.specs.Alarm.{blank}
 use Rattle.settings.specs.declared.types.Alarm.{Alarm}
-use Rattle.alarm.specs.Held.{freshState}
+use Rattle.alarm.specs.Internal.Held.{freshState}
 use Rattle.alarm.specs.declared.state.State.{State}
-use Rattle.marks.specs.Marks.{startAt, requiredOf, markCondition, markConditions, markAlarm, markAlarms}
+use Rattle.marks.specs.Internal.Marks.{startAt, requiredOf, markCondition, markConditions, markAlarm, markAlarms}
 
 -- events without those of the first n conditions, and then of one more
 pub rest-next : (word n : ℕ) {rest : ℕ} → rest ≡ word / 2 ^ (6 + 3 * n) → rest / 8 ≡ word / 2 ^ (6 + 3 * (n + 1))

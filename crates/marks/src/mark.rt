@@ -2,7 +2,7 @@
 ghost use mathlib.Core.Path.{_≡_};
 ghost use Prim.Native.Nat.{_+_, _≤_};
 ghost use lib.ListN.{length};
-ghost use Rattle.marks.specs.Marks.{requiredOf, markConditions, markAlarm};
+ghost use Rattle.marks.specs.Internal.Marks.{requiredOf, markConditions, markAlarm};
 use crate::words::mark_condition;
 use crate::words::start_at;
 use alarm::state::State;

@@ -3,7 +3,7 @@ ghost use mathlib.Core.Path.{_≡_};
 ghost use Prim.Native.Nat.{_+_, _≤_, _<_};
 ghost use lib.ListN.{length};
 ghost use Rattle.wire.specs.Bits.{bit};
-ghost use Rattle.marks.specs.Marks.{markCondition, startAt};
+ghost use Rattle.marks.specs.Internal.Marks.{markCondition, startAt};
 use alarm::state::State;
 use condition::mark::ack_stamp;
 use condition::mark::count_after;

@@ -12,7 +12,7 @@ use Rattle.reader.specs.Read.{readOf}
 use Rattle.settings.specs.declared.reply.Refusal.{Refusal}
 use Rattle.settings.specs.declared.reply.Reply.the-variants.{Accepted, Refused as RefusedBy}
 use Rattle.image.proofs.RoundTrip as round
-use Rattle.bank.specs.Bank.{loadOf}
+use Rattle.bank.specs.Internal.Bank.{loadOf}
 use Rattle.bank.specs.declared.bank.Bank.{Bank}
 use Rattle.bank.specs.declared.bank.Loaded.{Loaded}
 use Rattle.replay.specs.Replay.{replayOf}

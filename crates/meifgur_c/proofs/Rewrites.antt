@@ -11,15 +11,15 @@ use Rattle.reader.specs.declared.read.Loaded.{Loaded}
 use Rattle.settings.specs.declared.reply.Refusal.{Refusal}
 use Rattle.settings.specs.declared.reply.Reply.the-variants.{Accepted, Refused as RefusedBy}
 use Rattle.settings.specs.declared.types.Settings.{Settings}
-use Rattle.image.specs.Write.{writtenOf, bufferOf}
+use Rattle.image.specs.Internal.Write.{writtenOf, imageBuffer}
 use Rattle.image.specs.declared.write.Written.{Written}
 use Rattle.image.specs.declared.write.Written.the-variants.{Length}
 use Rattle.image.proofs.RoundTrip as round
 use Rattle.meifgur_c.specs.Rewriting.{fiveIn, byWriter, writeBack, turnedBack, rewriteOf}
 
-pub written : (s : Settings) (out answer : List ℕ) {w : Written} → writtenOf s (length out) ≡ w → writeBack s out answer ≡ byWriter s w (bufferOf s out) answer
+pub written : (s : Settings) (out answer : List ℕ) {w : Written} → writtenOf s (length out) ≡ w → writeBack s out answer ≡ byWriter s w (imageBuffer s out) answer
 unfolding writeBack
-written s out answer h = ap (λ (w : Written). byWriter s w (bufferOf s out) answer) h
+written s out answer h = ap (λ (w : Written). byWriter s w (imageBuffer s out) answer) h
 
 module _ (image out answer : List ℕ) where
   pub no-room : length answer < 5 → rewriteOf image out answer ≡ record { code = 40; out = out; answer = answer }

@@ -7,10 +7,10 @@ use lib.ListN.{length, drop}
 use Rattle.reader.specs.Read.{readOf}
 use Rattle.settings.specs.declared.reply.Refusal.{Refusal}
 use Rattle.settings.specs.declared.types.Settings.{Settings}
-use Rattle.image.specs.Write.{writtenOf, bufferOf}
+use Rattle.image.specs.Internal.Write.{writtenOf, imageBuffer}
 use Rattle.image.specs.declared.write.Written.{Written}
 use Rattle.image.specs.declared.write.Written.the-variants.{Length, Refused}
-use Rattle.bank.specs.Scan.{onReply}
+use Rattle.bank.specs.Internal.Scan.{onReply}
 
 pub record Rewritten : Type 0 where
   pub code : ℕ
@@ -29,7 +29,7 @@ byWriter s (Refused r) out answer =
 
 -- of accepted settings
 unfoldable pub writeBack : Settings → List ℕ → List ℕ → Rewritten
-writeBack s out answer = byWriter s (writtenOf s (length out)) (bufferOf s out) answer
+writeBack s out answer = byWriter s (writtenOf s (length out)) (imageBuffer s out) answer
 
 -- the reader's refusal; `out` stays
 abbrev pub turnedBack : Refusal → List ℕ → List ℕ → Rewritten

@@ -5,7 +5,7 @@ use Prim.Native.Nat.{ℕ}
 use lib.ListN.{getD}
 use Rattle.wire.specs.Number.{value}
 use Rattle.settings.specs.Alarm.{blank, blanks, empty}
-use Rattle.settings.specs.Reply.{refusal}
+use Rattle.settings.specs.Refusals.{refusal}
 use Rattle.reader.specs.Count.{countAt}
 use Rattle.reader.specs.Record.{recordAt, digitalRecord, digitalAlarm}
 use Rattle.reader.specs.Section.{sectionAt, recordsFrom}

@@ -8,7 +8,7 @@ use lib.ListN.{length, getD, set}
 use mathlib.Core.Bool.{Bool, true, false, cond}
 use borrow.Author.Tests.{ltb-true, leb-true}
 use lib.Dec.{leb, ltb}
-use Rattle.settings.specs.Reply.{refusal}
+use Rattle.settings.specs.Refusals.{refusal}
 use Rattle.reader.specs.Count.{countAt}
 use Rattle.reader.specs.Record.{recordAt}
 use Rattle.reader.specs.Section.{recordsFrom, sectionAt, onRecord, onCount}

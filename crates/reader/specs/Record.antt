@@ -6,7 +6,7 @@ use lib.Dec.{ltb, leb}
 use lib.ListN.{length, getD}
 use Rattle.wire.specs.Number.{number}
 use Rattle.wire.specs.Real.{realAt}
-use Rattle.settings.specs.Reply.{refusal}
+use Rattle.settings.specs.Refusals.{refusal}
 use Rattle.settings.specs.Rules.{durationInRange, inRange, apart}
 use Rattle.settings.specs.declared.types.Limits.{Limits}
 use Rattle.settings.specs.declared.types.Severities.{Severities}

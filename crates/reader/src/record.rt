@@ -2,7 +2,7 @@
 ghost use mathlib.Core.Path.{_≡_};
 ghost use Prim.Native.Nat.{_+_, _≤_};
 ghost use lib.ListN.{length};
-ghost use Rattle.settings.specs.Reply.{refusal};
+ghost use Rattle.settings.specs.Refusals.{refusal};
 ghost use Rattle.reader.specs.Record.{limitsAt, severitiesAt, digitalRecord, analogRecord, sizeOf, recordAt};
 use settings::reply::Refusal;
 use settings::rules::levels_apart;

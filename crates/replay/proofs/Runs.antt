@@ -11,7 +11,7 @@ use lib.Dec.{leb}
 use lib.ListN.{length, take, drop, length-append, length-take, length-drop, drop-of-length-le}
 use lib.Seq.{take-all}
 use Rattle.scan_record.specs.Check.{recordSize, lengthOf}
-use Rattle.bank.specs.Scan.{scanOf, bufferOf}
+use Rattle.bank.specs.Internal.Scan.{scanOf, eventBuffer}
 use Rattle.bank.specs.declared.bank.Bank.{Bank}
 use Rattle.bank.specs.declared.scan.Scanned.{Scanned}
 use Rattle.bank.specs.declared.parts.Answer.{Answer}
@@ -37,7 +37,7 @@ module _ (d : Replayed) (buffer : List ℕ) (i : ℕ) (rec : List ℕ) where
   onward-length =
       omega (
         arith,
-        length-append (usedOf d buffer) (bufferOf (d .bank) rec (leftOf d buffer)),
+        length-append (usedOf d buffer) (eventBuffer (d .bank) rec (leftOf d buffer)),
         buffer-length (d .bank) rec (leftOf d buffer),
         length-take (16 * d .events) buffer,
         length-drop (16 * d .events) buffer,
@@ -76,7 +76,7 @@ module _ (d : Replayed) (buffer : List ℕ) (i : ℕ) (rec : List ℕ) where
       → 16 * counted (tallyOf d) (s .answer) i .events ≤ length buffer
   answer-fits e h = omega (arith, onward-fits h, ap (λ (r : Replayed). r .events) (onward-done e refl))
 
-  pub onward-buffer : {ys : List ℕ} → ys ≡ bufferOf (d .bank) rec lent
+  pub onward-buffer : {ys : List ℕ} → ys ≡ eventBuffer (d .bank) rec lent
       → usedOf d buffer ++ (ys ++ drop (length buffer - 16 * d .events) (leftOf d buffer)) ≡ onward d buffer i rec .buffer
   unfolding onward
   onward-buffer e =

@@ -7,7 +7,7 @@ use lib.ListN.{length, take, drop}
 use Rattle.settings.specs.declared.types.Settings.{Settings}
 use Rattle.alarm.specs.declared.state.State.{State}
 use Rattle.scan_record.specs.Check.{lengthOf}
-use Rattle.bank.specs.Scan.{scanOf, bufferOf}
+use Rattle.bank.specs.Internal.Scan.{scanOf, eventBuffer}
 use Rattle.bank.specs.declared.bank.Bank.{Bank}
 use Rattle.bank.specs.declared.parts.Answer.{Answer}
 use Rattle.bank.specs.declared.parts.Answer.the-variants.{Events, Refused}
@@ -79,7 +79,7 @@ onward d buffer i rec =
     let s = scanOf (d .bank) rec (length (leftOf d buffer)) in
     record {
       done = byAnswer d i (s .bank) (s .answer);
-      buffer = usedOf d buffer ++ bufferOf (d .bank) rec (leftOf d buffer);
+      buffer = usedOf d buffer ++ eventBuffer (d .bank) rec (leftOf d buffer);
     }
 
 -- after the first n records

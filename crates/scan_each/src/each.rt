@@ -1,6 +1,6 @@
 // Scan records one after the other, each by a call of `scan`.
 ghost use mathlib.Core.Path.{_≡_};
-ghost use Rattle.bank.specs.Bank.{loadOf};
+ghost use Rattle.bank.specs.Internal.Bank.{loadOf};
 ghost use Rattle.replay.specs.Replay.{sizeFor, replayOf};
 use bank::bank::Bank;
 use bank::bank::load;

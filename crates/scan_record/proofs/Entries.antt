@@ -11,7 +11,7 @@ use lib.ListN.{length, getD}
 use Rattle.wire.specs.Number.{number}
 use Rattle.wire.proofs.Laws.{and-true}
 use Rattle.wire.specs.Real.{realAt, bounded}
-use Rattle.settings.specs.Reply.{refusal}
+use Rattle.settings.specs.Refusals.{refusal}
 use Rattle.settings.specs.declared.types.Form.{Form}
 use Rattle.settings.specs.declared.types.Form.the-variants.{Digital, Analog}
 use Rattle.settings.specs.declared.reply.Refusal.{Refusal}

@@ -2,7 +2,7 @@
 ghost use mathlib.Core.Path.{_≡_};
 ghost use Prim.Native.Nat.{_+_, _≤_};
 ghost use lib.ListN.{length};
-ghost use Rattle.settings.specs.Reply.{refusal};
+ghost use Rattle.settings.specs.Refusals.{refusal};
 ghost use Rattle.scan_record.specs.Entry.{entrySize, digitalWord, analogWord, digitalEntry, analogEntry, entryAt};
 use alarm::step::Reading;
 use settings::reply::Refusal;

@@ -1,4 +1,4 @@
-pub mod Reply
+pub mod Refusals
 pub mod Alarm
 pub mod Rules
-pub mod Sound
+pub mod Internal

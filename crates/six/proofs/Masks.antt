@@ -4,12 +4,13 @@ use mathlib.Core.Bool.{Bool, true, false, not, _&&_, _||_, Bool·beq, cond}
 use Prim.Native.Nat.{ℕ, _+_, _*_, _/_, _≤_}
 use lib.Bits.{bitAnd, bitOr, bitXor}
 use lib.ListN.{take, drop}
-use Rattle.wire.specs.Bits.{bit, wordOf}
+use Rattle.wire.specs.Bits.{bit}
+use Rattle.wire.specs.Internal.Words.{wordOf}
 use Rattle.wire.proofs.WordLaws.{bit-shift}
 use Rattle.wire.proofs.MaskLaws.{Thirds, every, within, same, both, either, differ, flip, of-word, with-word, join}
-use Rattle.history.specs.Condition.{Told, acknowledges, returns, activates, alarmAfter, unackedAfter}
-use Rattle.condition.specs.Outcome.{toldOf}
-use Rattle.six.specs.Cells.{cell, six}
+use Rattle.history.specs.Internal.Condition.{Told, acknowledges, returns, activates, alarmAfter, unackedAfter}
+use Rattle.condition.specs.Internal.Outcome.{toldOf}
+use Rattle.six.specs.Internal.Cells.{cell, six}
 
 -- ---- laws of truth values: e enabled, a in alarm, u unacknowledged, m met, f freed, r ready, k acknowledged, q required, v activated
 

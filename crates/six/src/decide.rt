@@ -2,7 +2,7 @@
 ghost use mathlib.Core.Path.{_≡_};
 ghost use mathlib.Core.Bool.{cond};
 ghost use Prim.Native.Nat.{_+_, _*_, _≤_, _<_};
-ghost use Rattle.six.specs.Cells.{cellsOf};
+ghost use Rattle.six.specs.Internal.Cells.{cellsOf};
 
 // Bits of the six conditions: what each keeps, three a condition, and its events, three a condition.
 pub struct Cells {

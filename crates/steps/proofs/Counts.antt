@@ -11,14 +11,14 @@ use Rattle.wire.proofs.Laws.{below}
 use Rattle.settings.specs.declared.types.Alarm.{Alarm}
 use Rattle.settings.specs.declared.types.Kind.{Kind}
 use Rattle.settings.specs.declared.types.Kind.the-variants.{Digital, Analog}
-use Rattle.alarm.specs.Held.{lookDigital, lookAnalog}
-use Rattle.alarm.specs.Digital.{digitalEvents, digitalStep}
-use Rattle.alarm.specs.Analog.{analogEvents, analogStep}
-use Rattle.alarm.specs.Step.{stepKind}
+use Rattle.alarm.specs.Internal.Held.{lookDigital, lookAnalog}
+use Rattle.alarm.specs.Internal.Digital.{digitalEvents, digitalStep}
+use Rattle.alarm.specs.Internal.Analog.{analogEvents, analogStep}
+use Rattle.alarm.specs.Internal.Step.{stepKind}
 use Rattle.alarm.specs.declared.state.State.{State}
 use Rattle.alarm.specs.declared.step.Reading.{Reading}
 use Rattle.alarm.specs.declared.step.Reading.the-variants.{Digital as Bit, Level}
-use Rattle.steps.specs.Plan.{stepPart, stepAt, planOf, countOf}
+use Rattle.steps.specs.Internal.Plan.{stepPart, stepAt, planOf, countOf}
 use Rattle.steps.proofs.Alarms.{placed-below}
 
 -- an event word has 24 bits

@@ -12,21 +12,23 @@ use lib.Ieee.{Float, nan}
 use lib.Count.{ones, ones-step, ones-le}
 use lib.ListN.{length, getD, length-append}
 use lib.Seq.{sets}
-use Rattle.wire.specs.Bits.{bit, wordOf}
+use Rattle.wire.specs.Bits.{bit}
+use Rattle.wire.specs.Internal.Words.{wordOf}
 use Rattle.wire.proofs.WordLaws.{word-low, word-rest}
 use Rattle.wire.proofs.Laws.{sets-append, getD-within}
 use Rattle.settings.specs.Alarm.{blank}
 use Rattle.settings.specs.declared.types.Alarm.{Alarm}
 use Rattle.settings.specs.declared.types.Kind.{Kind}
 use Rattle.settings.specs.declared.types.Limits.{Limits}
-use Rattle.alarm.specs.Held.{freshState, lookDigital, lookAnalog}
-use Rattle.alarm.specs.Digital.{digitalEvents, digitalStep}
-use Rattle.alarm.specs.Analog.{analogEvents, analogStep}
-use Rattle.alarm.specs.Events.{Event, eventAt, eventsFrom}
+use Rattle.alarm.specs.Internal.Held.{freshState, lookDigital, lookAnalog}
+use Rattle.alarm.specs.Internal.Digital.{digitalEvents, digitalStep}
+use Rattle.alarm.specs.Internal.Analog.{analogEvents, analogStep}
+use Rattle.condition.specs.Event.{Event, eventBytes, logBytes}
+use Rattle.alarm.specs.Internal.Events.{eventAt, eventsFrom}
 use Rattle.alarm.specs.declared.state.State.{State}
-use Rattle.event.specs.Record.{eventBytes, logBytes, eventsOf}
+use Rattle.event.specs.Internal.Bits.{eventsOf}
 use Rattle.event.proofs.Stores.{length-event}
-use Rattle.steps.specs.Plan.{countOf, alarmEvents, eventsUpTo}
+use Rattle.steps.specs.Internal.Plan.{countOf, alarmEvents, eventsUpTo}
 
 pub log-append : (xs ys : List Event) → logBytes (xs ++ ys) ≡ logBytes xs ++ logBytes ys
 unfolding logBytes

@@ -14,7 +14,8 @@ use lib.Pow.{areBytes}
 use lib.Ieee.Fits.{and-i, and-l, and-r}
 use lib.ListN.{length, getD, take, drop, set, length-append, length-take, length-drop}
 use lib.Seq.{drop-cons, take-add, drop-drop, sets}
-use Rattle.wire.specs.Number.{part, value, number, bytes, words}
+use Rattle.wire.specs.Number.{part, value, number, bytes}
+use Rattle.wire.specs.Internal.Words.{words}
 
 pub length-bytes : (n v : ℕ) → length (bytes n v) ≡ n
 unfolding bytes

@@ -6,7 +6,8 @@ use Prim.Native.Nat.{ℕ, zero, suc, _+_, _*_, _/_, _%_, _^_, _≤_, _<_}
 use native.Mathlib.Omega.{arith}
 use lib.ListN.{getD}
 use lib.Bits.{bitAnd, bitOr, bitXor, and-block, or-block, xor-block, and-mask, and-zero-r, and-comm}
-use Rattle.wire.specs.Bits.{bit, wordOf, spread}
+use Rattle.wire.specs.Bits.{bit}
+use Rattle.wire.specs.Internal.Words.{wordOf, spread}
 use Rattle.wire.proofs.WordLaws.{bit-word, bit-digit, bit-shift}
 
 -- the bit of each place is read back

@@ -9,7 +9,8 @@ use lib.Dec.{eqb}
 use lib.Arith.{mod-mul}
 use lib.Pow.{shr-shr}
 use lib.ListN.{length, getD}
-use Rattle.wire.specs.Bits.{bit, wordOf}
+use Rattle.wire.specs.Bits.{bit}
+use Rattle.wire.specs.Internal.Words.{wordOf}
 
 half : (b : Bool) (w : ℕ) → (cond b 1 0 + 2 * w) / 2 ≡ w
 half true w = omega arith

@@ -1,3 +1,4 @@
 pub mod Number
 pub mod Real
 pub mod Bits
+pub mod Internal

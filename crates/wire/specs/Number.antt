@@ -1,6 +1,6 @@
 -- Little-endian numbers as lists of bytes.
 use Prim.Native.Nat.{ℕ, zero, suc, _+_, _*_, _/_, _%_}
-use mathlib.Core.List.{List, [], _∷_, _++_}
+use mathlib.Core.List.{List, [], _∷_}
 use lib.ListN.{take, drop}
 
 -- the n bytes from offset `at` on
@@ -20,8 +20,3 @@ number s at n = value (part s at n)
 unfoldable pub bytes : ℕ → ℕ → List ℕ
 bytes zero v = []
 bytes (suc n) v = v % 256 ∷ bytes n (v / 256)
-
--- 32-bit numbers one after the other
-unfoldable pub words : List ℕ → List ℕ
-words [] = []
-words (v ∷ vs) = bytes 4 v ++ words vs

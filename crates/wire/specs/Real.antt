@@ -2,16 +2,12 @@
 use Prim.Native.Nat.{ℕ}
 use mathlib.Core.List.{List}
 use mathlib.Core.Bool.{Bool, _&&_}
-use lib.Ieee.{Float, binary32, ofBits, toBits, neg, le}
-use Rattle.wire.specs.Number.{number, bytes}
+use lib.Ieee.{Float, binary32, ofBits, neg, le}
+use Rattle.wire.specs.Number.{number}
 
 -- the REAL whose bit pattern stands at offset `at`
 abbrev pub realAt : List ℕ → ℕ → Float
 realAt s at = ofBits binary32 (number s at 4)
-
--- the four bytes of a REAL's bit pattern
-abbrev pub realBytes : Float → List ℕ
-realBytes x = bytes 4 (toBits binary32 x)
 
 -- the largest magnitude, the REAL nearest 10^15: 999,999,986,991,104
 unfoldable pub largest : Float

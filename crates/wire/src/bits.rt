@@ -3,7 +3,7 @@ ghost use mathlib.Core.Path.{_≡_};
 ghost use mathlib.Core.Bool.{cond};
 ghost use mathlib.Core.List.{[], _∷_};
 ghost use Prim.Native.Nat.{_<_, _≤_};
-ghost use Rattle.wire.specs.Bits.{wordOf, spread};
+ghost use Rattle.wire.specs.Internal.Words.{wordOf, spread};
 
 fn one(b: bool) -> u32
     ensures { λ r. ⌜ (r ≡ cond b 1 0) × (r ≤ 1) ⌝ }

@@ -4,7 +4,8 @@ ghost use Prim.Native.Nat.{_+_, _≤_};
 ghost use lib.ListN.{length};
 ghost use lib.Seq.{sets};
 ghost use lib.Ieee.{binary32, ofBits, toBits};
-ghost use Rattle.wire.specs.Real.{bounded, realAt, realBytes};
+ghost use Rattle.wire.specs.Real.{bounded, realAt};
+ghost use Rattle.wire.specs.Internal.Words.{realBytes};
 use crate::number::get_u32;
 use crate::number::put_u32;
 

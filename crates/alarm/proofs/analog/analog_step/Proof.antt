@@ -6,16 +6,17 @@ use mathlib.Core.Bool.{false}
 use mathlib.Core.List.{[], _∷_}
 use Prim.Native.Nat.{ℕ, _*_}
 use lib.ListN.{getD, take, drop}
-use Rattle.wire.specs.Bits.{bit, wordOf, spread}
+use Rattle.wire.specs.Bits.{bit}
+use Rattle.wire.specs.Internal.Words.{wordOf, spread}
 use Rattle.wire.proofs.Laws.{and-true}
 use Rattle.wire.proofs.WordLaws.{word-low}
 use Rattle.wire.proofs.MaskLaws.{bit-spread}
 use Rattle.level.specs.Level.{metBits}
-use Rattle.condition.specs.Mode.{modeBits}
-use Rattle.alarm.specs.Held.{High, Low, packed}
-use Rattle.six.specs.Cells.{six}
-use Rattle.alarm.specs.Packed.{resampled, startsAfter}
-use Rattle.alarm.specs.Analog.{analogStep}
+use Rattle.condition.specs.Internal.Mode.{modeBits}
+use Rattle.alarm.specs.Internal.Held.{High, Low, packed}
+use Rattle.six.specs.Internal.Cells.{six}
+use Rattle.alarm.specs.Internal.Packed.{resampled, startsAfter}
+use Rattle.alarm.specs.Internal.Analog.{analogStep}
 use Rattle.alarm.proofs.RestLaws.{none-met, restSample, analog-rests}
 use Rattle.alarm.proofs.Assemble.{after, outcomes, decided-is, analog-flags, analog-events}
 use Rattle.alarm.proofs.analog.analog_step.Statement.{statement}

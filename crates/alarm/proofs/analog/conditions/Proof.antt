@@ -1,6 +1,6 @@
 -- `alarm::analog::conditions` meets its contract: the words of the six, decided. Assumes nothing.
 use borrow.Author.Needs.{needs}
-use Rattle.alarm.specs.Packed.{decided}
+use Rattle.alarm.specs.Internal.Packed.{decided}
 use mathlib.Core.Path.{_∙_}
 use Rattle.alarm.proofs.analog.conditions.Statement.{statement}
 use Rattle.alarm.proofs.analog.conditions.Tie as tie

@@ -1,7 +1,7 @@
 -- `condition::command::ack_word` meets its contract: a bit for each condition, and none of a word that has none. Assumes nothing.
 use borrow.Author.Needs.{needs}
-use Rattle.condition.specs.Command.{ackBits}
-use Rattle.wire.specs.Bits.{wordOf, spread}
+use Rattle.condition.specs.Internal.Outcome.{ackBits}
+use Rattle.wire.specs.Internal.Words.{wordOf, spread}
 use native.Mathlib.Omega.{arith}
 use mathlib.Core.Path.{sym, ap, _∙_}
 use Prim.Native.Nat.{ℕ}

@@ -1,7 +1,8 @@
 -- `condition::mode::modes` meets its contract: the bits after the scan and the events, packed. Assumes nothing.
 use borrow.Author.Needs.{needs}
-use Rattle.condition.specs.Mode.{modeBits}
-use Rattle.wire.specs.Bits.{bit, wordOf}
+use Rattle.condition.specs.Internal.Mode.{modeBits}
+use Rattle.wire.specs.Bits.{bit}
+use Rattle.wire.specs.Internal.Words.{wordOf}
 use Rattle.wire.proofs.WordLaws.{word-join, word-two}
 use native.Mathlib.Omega.{arith}
 use native.Mathlib.Nat.{div-one}

@@ -1,6 +1,6 @@
 -- `condition::severity::acting_severity` meets its contract: each return takes the case that its tests led to. Assumes nothing.
 use borrow.Author.Needs.{needs}
-use Rattle.condition.specs.Mark.{acting}
+use Rattle.condition.specs.Severity.{acting}
 use borrow.Author.Tests.{eq-eqb, ne-eqb, lt-ltb, le-ltb, le-leb}
 use Rattle.condition.proofs.severity.acting_severity.Statement.{statement}
 use Rattle.condition.proofs.severity.acting_severity.Tie as tie

@@ -1,6 +1,6 @@
 -- `event::write::put_event` meets its contract: the head, then the rest. Assumes nothing.
 use borrow.Author.Needs.{needs}
-use Rattle.alarm.specs.Events.{eventAt}
+use Rattle.alarm.specs.Internal.Events.{eventAt}
 use Rattle.event.proofs.Stores.{event-stores}
 use denote.Ref.{now}
 use mathlib.Core.Path.{_∙_}

@@ -1,6 +1,6 @@
 -- `image::write::has_room` meets its contract: each return takes the case that its tests led to. Assumes nothing.
 use borrow.Author.Needs.{needs}
-use Rattle.image.specs.Write.{hasRoom}
+use Rattle.image.specs.Internal.Write.{hasRoom}
 use borrow.Author.Tests.{le-leb, lt-leb}
 use Rattle.image.proofs.write.has_room.Statement.{statement}
 use Rattle.image.proofs.write.has_room.Tie as tie

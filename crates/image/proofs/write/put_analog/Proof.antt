@@ -1,6 +1,6 @@
 -- `image::write::put_analog` meets its contract: a byte and fifteen words, one after the other. Assumes nothing.
 use borrow.Author.Needs.{needs}
-use Rattle.image.specs.Write.{analogBytes, severityWords, limitWords}
+use Rattle.image.specs.Internal.Write.{analogBytes, severityWords, limitWords}
 use Rattle.wire.proofs.Laws.{byte-then, word-then, words-then, words-done}
 use native.Mathlib.Nat.{add-assoc}
 use denote.Ref.{now}

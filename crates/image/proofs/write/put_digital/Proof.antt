@@ -1,6 +1,6 @@
 -- `image::write::put_digital` meets its contract: a byte and two words, one after the other. Assumes nothing.
 use borrow.Author.Needs.{needs}
-use Rattle.image.specs.Write.{digitalBytes}
+use Rattle.image.specs.Internal.Write.{digitalBytes}
 use Rattle.wire.proofs.Laws.{byte-then, word-then, words-done}
 use native.Mathlib.Nat.{add-assoc}
 use denote.Ref.{now}

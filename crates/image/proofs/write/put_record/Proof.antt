@@ -1,7 +1,7 @@
 -- `image::write::put_record` meets its contract: by the form and the kind. Assumes nothing.
 use borrow.Author.Needs.{needs}
 use Rattle.image.proofs.Images.{length-digital, length-analog}
-use Rattle.image.specs.Write.{digitalBytes, analogBytes, kindBytes, recordBytes}
+use Rattle.image.specs.Internal.Write.{digitalBytes, analogBytes, kindBytes, recordBytes}
 use lib.ListN.{length}
 use native.Mathlib.Omega.{arith}
 use native.Mathlib.Nat.{add-zero}

@@ -6,7 +6,7 @@ use Prim.Native.Nat.{_+_, _-_, _≤_, _<_}
 use native.Mathlib.Omega.{arith}
 use lib.ListN.{length}
 use lib.Seq.{sets, slice}
-use Rattle.image.specs.Write.{recordsBytes}
+use Rattle.image.specs.Internal.Write.{recordsBytes}
 use Rattle.image.proofs.write.put_records.Statement.{statement}
 use Rattle.image.proofs.write.put_records.Tie as tie
 

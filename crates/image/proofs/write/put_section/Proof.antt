@@ -1,7 +1,7 @@
 -- `image::write::put_section` meets its contract: the count, then the records. Assumes nothing.
 use borrow.Author.Needs.{needs}
 use Rattle.image.proofs.Images.{section-length}
-use Rattle.image.specs.Write.{sectionBytes}
+use Rattle.image.specs.Internal.Write.{sectionBytes}
 use native.Mathlib.Numerals.{add-one}
 use native.Mathlib.Omega.{arith}
 use mathlib.Core.Path.{_∙_}

@@ -1,10 +1,9 @@
 -- `image::write::write` meets its contract: both sections one after the other, where there is room. Assumes nothing.
 use borrow.Author.Needs.{needs}
 use Rattle.image.specs.declared.write.Written.the-variants.{Length}
-use Rattle.image.proofs.Images.{image-length, image-front}
-use Rattle.image.proofs.Images.{room, section-room}
+use Rattle.image.proofs.Images.{image-length, image-front, room, section-room}
 use Rattle.settings.specs.declared.types.Form.the-variants.{Digital, Analog}
-use Rattle.image.specs.Write.{writtenOf, bufferOf}
+use Rattle.image.specs.Internal.Write.{writtenOf, imageBuffer}
 use borrow.Author.Tests.{not-true, not-false}
 use denote.Ref.{now}
 use native.Mathlib.Omega.{arith}
@@ -13,7 +12,7 @@ use Rattle.image.proofs.write.write.Statement.{statement}
 use Rattle.image.proofs.write.write.Tie as tie
 
 returns : tie.Need-returns
-unfolding writtenOf bufferOf
+unfolding writtenOf imageBuffer
 returns c = (simp (← c .before .has-room .ensures, not-true (c .before .has-room .result) (c .if1 .taken)), simp (← c .before .has-room .ensures, not-true (c .before .has-room .result) (c .if1 .taken)))
 
 put-section-requires : tie.Need-put-section-requires
@@ -29,7 +28,7 @@ put-section-requires-2 c κs =
     omega (arith, section-room Digital 0 (s .digital) (s .alarms), section-room Analog (s .digital) (s .analog) (s .alarms), r .digital, r .analog, r .image)
 
 returns-2 : tie.Need-returns-2
-unfolding writtenOf bufferOf
+unfolding writtenOf imageBuffer
 returns-2 c =
     let s = c .before .before .before .before .before .before .before .before .before .before .before .before .args .settings in
     let h = c .before .before .before .before .before .before .before .before .before .has-room in

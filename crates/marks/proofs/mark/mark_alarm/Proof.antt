@@ -4,7 +4,7 @@ use mathlib.Core.Path.{sym, _∙_}
 use native.Mathlib.Omega.{arith}
 use lib.ListN.{length-set}
 use denote.Ref.{now}
-use Rattle.marks.specs.Marks.{markAlarm}
+use Rattle.marks.specs.Internal.Marks.{markAlarm}
 use Rattle.marks.proofs.Still.{alarm-still}
 use Rattle.marks.proofs.mark.mark_alarm.Statement.{statement}
 use Rattle.marks.proofs.mark.mark_alarm.Tie as tie

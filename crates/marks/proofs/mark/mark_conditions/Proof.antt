@@ -5,7 +5,7 @@ use Prim.Native.Nat.{_+_, _*_, _-_, _/_, _^_, _≤_}
 use native.Mathlib.Omega.{arith}
 use lib.ListN.{length}
 use denote.Ref.{now}
-use Rattle.marks.specs.Marks.{markConditions}
+use Rattle.marks.specs.Internal.Marks.{markConditions}
 use Rattle.marks.proofs.Turns.{rest-next, conditions-next}
 use Rattle.marks.proofs.mark.mark_conditions.Statement.{statement}
 use Rattle.marks.proofs.mark.mark_conditions.Tie as tie

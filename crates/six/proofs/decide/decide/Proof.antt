@@ -2,7 +2,7 @@
 use borrow.Author.Needs.{needs}
 use mathlib.Core.Path.{ap₂, _∙_}
 use Prim.Native.Nat.{ℕ}
-use Rattle.six.specs.Cells.{cellsOf}
+use Rattle.six.specs.Internal.Cells.{cellsOf}
 use Rattle.six.proofs.Masks.{kept-fits, kept-is, events-fit, events-is}
 use Rattle.six.proofs.decide.decide.Statement.{statement}
 use Rattle.six.proofs.decide.decide.Tie as tie

@@ -1,7 +1,7 @@
 -- `wire::bits::spread6` meets its contract: six bits, each with its weight. Assumes nothing.
 use borrow.Author.Needs.{needs}
 use native.Mathlib.Omega.{arith}
-use Rattle.wire.specs.Bits.{wordOf, spread}
+use Rattle.wire.specs.Internal.Words.{wordOf, spread}
 use Rattle.wire.proofs.bits.spread6.Statement.{statement}
 use Rattle.wire.proofs.bits.spread6.Tie as tie
 

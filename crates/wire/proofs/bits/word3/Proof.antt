@@ -1,7 +1,7 @@
 -- `wire::bits::word3` meets its contract: three bits, each with its weight. Assumes nothing.
 use borrow.Author.Needs.{needs}
 use native.Mathlib.Omega.{arith}
-use Rattle.wire.specs.Bits.{wordOf}
+use Rattle.wire.specs.Internal.Words.{wordOf}
 use Rattle.wire.proofs.bits.word3.Statement.{statement}
 use Rattle.wire.proofs.bits.word3.Tie as tie
 

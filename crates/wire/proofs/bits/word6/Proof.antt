@@ -1,7 +1,7 @@
 -- `wire::bits::word6` meets its contract: three bits, and three above them. Assumes nothing.
 use borrow.Author.Needs.{needs}
 use native.Mathlib.Omega.{arith}
-use Rattle.wire.specs.Bits.{wordOf}
+use Rattle.wire.specs.Internal.Words.{wordOf}
 use Rattle.wire.proofs.bits.word6.Statement.{statement}
 use Rattle.wire.proofs.bits.word6.Tie as tie
 

@@ -1,0 +1,75 @@
+-- The image of settings, and what the writer leaves in a lent buffer.
+use Prim.Native.Nat.{ℕ, _+_, _*_}
+use mathlib.Core.List.{List, [], _∷_, _++_}
+use mathlib.Core.Bool.{Bool, _&&_, cond}
+use lib.Dec.{leb}
+use lib.ListN.{length, drop}
+use lib.Seq.{slice}
+use lib.Ieee.{binary32, toBits}
+use Rattle.wire.specs.Internal.Words.{words}
+use Rattle.settings.specs.Refusals.{refusal}
+use Rattle.settings.specs.declared.types.Limits.{Limits}
+use Rattle.settings.specs.declared.types.Severities.{Severities}
+use Rattle.settings.specs.declared.types.Alarm.{Alarm}
+use Rattle.settings.specs.declared.types.Kind.{Kind}
+use Rattle.settings.specs.declared.types.Kind.the-variants.{Digital, Analog}
+use Rattle.settings.specs.declared.types.Form.{Form}
+use Rattle.settings.specs.declared.types.Form.the-variants.{Digital as DigitalForm, Analog as AnalogForm}
+use Rattle.settings.specs.declared.types.Settings.{Settings}
+use Rattle.image.specs.declared.write.Written.{Written}
+use Rattle.image.specs.declared.write.Written.the-variants.{Length, Refused}
+
+abbrev pub severityWords : Severities → List ℕ
+severityWords s = s .hh ∷ s .h ∷ s .l ∷ s .ll ∷ s .rocpos ∷ s .rocneg ∷ []
+
+-- each REAL by its bit pattern
+abbrev pub limitWords : Limits → List ℕ
+limitWords g =
+    toBits binary32 (g .hh) ∷ toBits binary32 (g .h) ∷ toBits binary32 (g .l) ∷ toBits binary32 (g .ll)
+    ∷ toBits binary32 (g .deadband) ∷ toBits binary32 (g .rocpos) ∷ toBits binary32 (g .rocneg) ∷ []
+
+-- 9 bytes
+unfoldable pub digitalBytes : ℕ → ℕ → ℕ → List ℕ
+digitalBytes flags severity duration = flags ∷ words (severity ∷ duration ∷ [])
+
+-- 61 bytes
+unfoldable pub analogBytes : ℕ → Limits → Severities → ℕ → ℕ → List ℕ
+analogBytes flags g s period duration = flags ∷ words (severityWords s ++ (limitWords g ++ (period ∷ duration ∷ [])))
+
+-- the record of an alarm of the section's form. An alarm of the other kind has none there; accepted settings have no such alarm
+unfoldable pub kindBytes : Form → Kind → ℕ → ℕ → List ℕ
+kindBytes DigitalForm (Digital severity) flags duration = digitalBytes flags severity duration
+kindBytes DigitalForm (Analog g s period) flags duration = []
+kindBytes AnalogForm (Digital severity) flags duration = []
+kindBytes AnalogForm (Analog g s period) flags duration = analogBytes flags g s period duration
+
+abbrev pub recordBytes : Form → Alarm → List ℕ
+recordBytes form a = kindBytes form (a .kind) (a .flags) (a .duration)
+
+unfoldable pub recordsBytes : Form → List Alarm → List ℕ
+recordsBytes form [] = []
+recordsBytes form (a ∷ rest) = recordBytes form a ++ recordsBytes form rest
+
+-- the section of the n alarms from place `first` on: their number, then their records
+unfoldable pub sectionBytes : Form → ℕ → ℕ → List Alarm → List ℕ
+sectionBytes form first n alarms = n ∷ recordsBytes form (slice first (first + n) alarms)
+
+-- both sections in order
+unfoldable pub imageOf : Settings → List ℕ
+imageOf s = sectionBytes DigitalForm 0 (s .digital) (s .alarms) ++ sectionBytes AnalogForm (s .digital) (s .analog) (s .alarms)
+
+-- the image's length: a count of one byte and 9 bytes for each digital alarm, a count and 61 bytes for each analog one
+abbrev pub sizeOfImage : ℕ → ℕ → ℕ
+sizeOfImage d a = 2 + 9 * d + 61 * a
+
+-- the buffer is long enough. (Counts over 12 stand in no accepted settings, and have no image)
+unfoldable pub hasRoom : ℕ → ℕ → ℕ → Bool
+hasRoom d a n = leb d 12 && leb a 12 && leb (sizeOfImage d a) n
+
+-- the image's length, or 13
+unfoldable pub writtenOf : Settings → ℕ → Written
+writtenOf s n = cond (hasRoom (s .digital) (s .analog) n) (Length (length (imageOf s))) (Refused (refusal 13 0))
+
+-- the image in front of what stood behind it; a refusal leaves every byte
+unfoldable pub imageBuffer : Settings → List ℕ → List ℕ
+imageBuffer s out = cond (hasRoom (s .digital) (s .analog) (length out)) (imageOf s ++ drop (length (imageOf s)) out) out

@@ -1,0 +1,44 @@
+-- What a report says of the conditions of an alarm.
+use Prim.Native.Nat.{ℕ, _+_, _/_}
+use mathlib.Core.Bool.{not, false}
+use mathlib.Core.List.{List, [], _∷_}
+use lib.ListN.{replicate}
+use Rattle.wire.specs.Bits.{bit}
+use Rattle.settings.specs.declared.types.Kind.{Kind}
+use Rattle.settings.specs.declared.types.Kind.the-variants.{Digital, Analog}
+use Rattle.marks.specs.Internal.Marks.{marksAt}
+use Rattle.report.specs.declared.status.Status.{Status}
+
+-- where no condition is: all zeros and false
+abbrev pub noStatus : Status
+noStatus = record { alarm = false; acked = false; count = 0; alarmtime = 0; acktime = 0; returntime = 0 }
+
+unfoldable pub noStatuses : List Status
+noStatuses = replicate 6 noStatus
+
+-- in alarm, acknowledged, count and stamps: of the condition whose flags stand lowest in a digit, in alarm and unacknowledged, and whose words
+-- begin at an offset
+unfoldable pub statusAt : List ℕ → ℕ → ℕ → Status
+statusAt marks at digit =
+    record {
+      alarm = bit digit 0;
+      acked = not (bit digit 1);
+      count = marksAt marks at .count;
+      alarmtime = marksAt marks at .alarm;
+      acktime = marksAt marks at .ack;
+      returntime = marksAt marks at .return;
+    }
+
+-- the one condition of a digital alarm; an alarm's words begin with its count reset stamp, its flags with six of the whole alarm
+unfoldable pub digitalStatuses : List ℕ → ℕ → ℕ → List Status
+digitalStatuses marks at flags = statusAt marks (at + 1) (flags / 64) ∷ noStatus ∷ noStatus ∷ noStatus ∷ noStatus ∷ noStatus ∷ []
+
+-- HH, H, L, LL, ROCPos, ROCNeg of an analog alarm
+unfoldable pub analogStatuses : List ℕ → ℕ → ℕ → List Status
+analogStatuses marks at flags =
+    statusAt marks (at + 1) (flags / 64) ∷ statusAt marks (at + 5) (flags / 512) ∷ statusAt marks (at + 9) (flags / 4096)
+    ∷ statusAt marks (at + 13) (flags / 32768) ∷ statusAt marks (at + 17) (flags / 262144) ∷ statusAt marks (at + 21) (flags / 2097152) ∷ []
+
+abbrev pub statusesOf : Kind → List ℕ → ℕ → ℕ → List Status
+statusesOf (Digital severity) marks at flags = digitalStatuses marks at flags
+statusesOf (Analog g s period) marks at flags = analogStatuses marks at flags

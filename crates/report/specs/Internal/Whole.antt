@@ -1,0 +1,56 @@
+-- What a report says of a whole alarm.
+use Prim.Native.Nat.{ℕ}
+use mathlib.Core.Bool.{Bool, false, not, _||_}
+use Rattle.condition.specs.Severity.{severityInvalid}
+use Rattle.settings.specs.declared.types.Severities.{Severities}
+use Rattle.settings.specs.declared.types.Kind.{Kind}
+use Rattle.settings.specs.declared.types.Kind.the-variants.{Digital, Analog}
+use Rattle.settings.specs.declared.types.Alarm.{Alarm}
+use Rattle.level.specs.Level.{zeroReal}
+use Rattle.alarm.specs.Internal.Held.{High, Low, DigitalHeld, lookDigital, AnalogHeld, lookAnalog}
+use Rattle.alarm.specs.declared.state.State.{State}
+use Rattle.alarm_history.specs.Elapsed.{elapsed}
+use Rattle.report.specs.declared.whole.Whole.{Whole}
+
+-- where no alarm is: all zeros and false
+abbrev pub noWhole : Whole
+noWhole = record { enabled = false; suppressed = false; infaulted = false; severityinv = false; rate = zeroReal; high = 0; low = 0 }
+
+-- SeverityInv of an analog alarm: any of its severities is out of range
+unfoldable pub anyInvalid : Severities → Bool
+anyInvalid s =
+    (severityInvalid (s .hh) || severityInvalid (s .h) || severityInvalid (s .l))
+    || (severityInvalid (s .ll) || severityInvalid (s .rocpos) || severityInvalid (s .rocneg))
+
+-- a digital alarm that keeps d, when the last accepted scan was at `time`; its rate is 0
+abbrev pub digitalWhole : ℕ → ℕ → DigitalHeld → ℕ → Whole
+digitalWhole severity duration d time =
+    record {
+      enabled = not (d .disabled);
+      suppressed = d .suppressed;
+      infaulted = d .faulted;
+      severityinv = severityInvalid severity;
+      rate = zeroReal;
+      high = elapsed duration (d .cell .row) (d .cell .start) time;
+      low = 0;
+    }
+
+-- an analog alarm, with the elapsed run of each side
+abbrev pub analogWhole : Severities → ℕ → AnalogHeld → ℕ → Whole
+analogWhole severities duration a time =
+    record {
+      enabled = not (a .disabled);
+      suppressed = a .suppressed;
+      infaulted = a .faulted;
+      severityinv = anyInvalid severities;
+      rate = a .sample .rate;
+      high = elapsed duration (a .run High .on) (a .run High .start) time;
+      low = elapsed duration (a .run Low .on) (a .run Low .start) time;
+    }
+
+abbrev pub wholeKind : Kind → ℕ → State → ℕ → Whole
+wholeKind (Digital severity) duration s time = digitalWhole severity duration (lookDigital s) time
+wholeKind (Analog g severities period) duration s time = analogWhole severities duration (lookAnalog s) time
+
+unfoldable pub wholeOf : Alarm → State → ℕ → Whole
+wholeOf a s time = wholeKind (a .kind) (a .duration) s time

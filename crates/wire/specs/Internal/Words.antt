@@ -1,0 +1,25 @@
+-- Words made of bits, and bytes made of words.
+use Prim.Native.Nat.{ℕ, _+_, _*_}
+use mathlib.Core.Bool.{Bool, false, cond}
+use mathlib.Core.List.{List, [], _∷_, _++_}
+use lib.Ieee.{Float, binary32, toBits}
+use Rattle.wire.specs.Number.{bytes}
+
+-- the word that has these bits, the lowest first
+unfoldable pub wordOf : List Bool → ℕ
+wordOf [] = 0
+wordOf (b ∷ bs) = cond b 1 0 + 2 * wordOf bs
+
+-- a bit for each condition, at every third place
+unfoldable pub spread : List Bool → List Bool
+spread [] = []
+spread (b ∷ bs) = b ∷ false ∷ false ∷ spread bs
+
+-- 32-bit numbers one after the other
+unfoldable pub words : List ℕ → List ℕ
+words [] = []
+words (v ∷ vs) = bytes 4 v ++ words vs
+
+-- the four bytes of a REAL's bit pattern
+abbrev pub realBytes : Float → List ℕ
+realBytes x = bytes 4 (toBits binary32 x)
