@@ -5,9 +5,11 @@ use mathlib.Core.List.{List, [], _∷_}
 use Prim.Native.Nat.{ℕ, _+_, _*_, _/_, _%_}
 use native.Mathlib.Omega.{arith}
 use lib.ListN.{getD, take, drop}
-use lib.Ieee.{Float}
+use Rattle.settings.specs.declared.types.Alarm.{Alarm}
 use Rattle.settings.specs.declared.types.Limits.{Limits}
-use Rattle.level.specs.Level.{metBits, freesBits}
+use Rattle.settings.specs.declared.types.Reading.{Reading}
+use Rattle.level.specs.Level.{met, frees}
+use Rattle.level.specs.Internal.Bits.{analogOf, metBits, freesBits}
 use Rattle.condition.specs.Internal.Outcome.{ackBits, toldOf, outcomeBits}
 use Rattle.wire.specs.Bits.{bit}
 use Rattle.wire.specs.Internal.Words.{wordOf, spread}
@@ -26,14 +28,14 @@ nine-bits : (d s f a u r : Bool) → wordOf (d ∷ s ∷ f ∷ []) + 64 * wordOf
 unfolding wordOf
 nine-bits d s f a u r = omega arith
 
-module _ (flags duration : ℕ) (s : State) (input : Bool) (word time : ℕ) {m c : ℕ}
+module _ (a : Alarm) (s : State) (x : Reading) (word time : ℕ) {m c : ℕ}
     (p : m ≡ wordOf (modeBits (bit (s .flags) 0) (bit (s .flags) 1) word (s .previous)))
-    (q : c ≡ wordOf (outcomeBits (digitalTold flags duration input word time (lookDigital s)) (bit (s .flags) 6) (bit (s .flags) 7))) where
-  pub digital-flags : m % 8 + 64 * (c % 8) ≡ wordOf (digitalFlags (digitalAfter flags duration input word time (lookDigital s)))
+    (q : c ≡ wordOf (outcomeBits (digitalTold a x word time (lookDigital s)) (bit (s .flags) 6) (bit (s .flags) 7))) where
+  pub digital-flags : m % 8 + 64 * (c % 8) ≡ wordOf (digitalFlags (digitalAfter a x word time (lookDigital s)))
   unfolding modeBits
   digital-flags = rw (word-halves _ _ _ _ p .0, word-halves _ _ _ _ q .0) (nine-bits _ _ _ _ _ _)
 
-  pub digital-events : m / 8 + 64 * (c / 8) ≡ wordOf (digitalEvents flags duration input word time (lookDigital s))
+  pub digital-events : m / 8 + 64 * (c / 8) ≡ wordOf (digitalEvents a x word time (lookDigital s))
   unfolding modeBits
   digital-events = word-join (_ ∷ _ ∷ _ ∷ _ ∷ _ ∷ _ ∷ []) _ (word-halves _ _ _ _ p .1) (word-halves _ _ _ _ q .1)
 
@@ -50,34 +52,37 @@ flags-join : (d s f e h l : Bool) (cells : List Bool) → wordOf (d ∷ s ∷ f 
 unfolding wordOf
 flags-join d s f e h l cells = omega arith
 
-module _ (flags duration : ℕ) (g : Limits) (period : ℕ) (s : State) (x : Float) (word time : ℕ) where
+module _ (flags duration : ℕ) (g : Limits) (period : ℕ) (s : State) (x : Reading) (word time : ℕ) where
+  abbrev pub alarm : Alarm
+  alarm = analogOf flags duration g period
+
   abbrev pub after : AnalogHeld
-  after = analogAfter flags duration g period x word time (lookAnalog s)
+  after = analogAfter alarm x word time (lookAnalog s)
 
   -- the outcomes of the six, from the lists of bits
   abbrev pub outcomes : ℕ → List Bool
   outcomes k =
       outcomeBits
-      (toldOf (not (after .disabled)) (getD (metBits flags g period x (after .sample .rate)) k false) (getD (freesBits g x) k false)
+      (toldOf (not (after .disabled)) (getD (metBits (analogOf flags 0 g period) x (after .sample .rate)) k false) (getD (freesBits (analogOf 0 0 g 0) x) k false)
       (getD (readyBits (s .flags) (after .run High .start) (after .run Low .start) duration time) k false) (getD (ackBits word (s .previous)) k false) (bit flags 4))
       (bit (s .flags) (6 + 3 * k)) (bit (s .flags) (7 + 3 * k))
 
-  pub decided-is : decided flags duration g (startsAfter s time) (not (after .disabled)) (wordOf (spread (metBits flags g period x (after .sample .rate)))) x word time
+  pub decided-is : decided flags duration g (startsAfter s time) (not (after .disabled)) (wordOf (spread (metBits (analogOf flags 0 g period) x (after .sample .rate)))) x word time
       ≡ record { kept = wordOf (six (take 3) outcomes); events = wordOf (six (drop 3) outcomes) }
   unfolding decided cellsOf startsAfter
   decided-is =
-      let e : _≡_ {A = ℕ → List Bool} (cell (s .flags) (not (after .disabled)) (wordOf (spread (metBits flags g period x (after .sample .rate)))) (wordOf (spread (freesBits g x))) (wordOf (spread (readyBits (s .flags) (after .run High .start) (after .run Low .start) duration time))) (wordOf (spread (ackBits word (s .previous)))) (bit flags 4)) outcomes =
-      fun-ext (cell-lists (s .flags) (not (after .disabled)) (bit flags 4) (metBits flags g period x (after .sample .rate)) (freesBits g x) (readyBits (s .flags) (after .run High .start) (after .run Low .start) duration time) (ackBits word (s .previous)))
+      let e : _≡_ {A = ℕ → List Bool} (cell (s .flags) (not (after .disabled)) (wordOf (spread (metBits (analogOf flags 0 g period) x (after .sample .rate)))) (wordOf (spread (freesBits (analogOf 0 0 g 0) x))) (wordOf (spread (readyBits (s .flags) (after .run High .start) (after .run Low .start) duration time))) (wordOf (spread (ackBits word (s .previous)))) (bit flags 4)) outcomes =
+      fun-ext (cell-lists (s .flags) (not (after .disabled)) (bit flags 4) (metBits (analogOf flags 0 g period) x (after .sample .rate)) (freesBits (analogOf 0 0 g 0) x) (readyBits (s .flags) (after .run High .start) (after .run Low .start) duration time) (ackBits word (s .previous)))
       in
       ap (λ (o : ℕ → List Bool). record { kept = wordOf (six (take 3) o); events = wordOf (six (drop 3) o) }) e
 
   pub analog-flags : {m r : ℕ} → m ≡ wordOf (modeBits (bit (s .flags) 0) (bit (s .flags) 1) word (s .previous))
       → r ≡ wordOf (after .held ∷ after .run High .on ∷ after .run Low .on ∷ [])
       → m % 8 + 8 * r + 64 * wordOf (six (take 3) outcomes) ≡ wordOf (analogFlags after)
-  unfolding modeBits readyBits
+  unfolding modeBits readyBits metBits met freesBits frees ackBits
   analog-flags p q = rw (word-halves _ _ _ _ p .0, q) (flags-join _ _ _ _ _ _ (six (take 3) outcomes))
 
   pub analog-events : {m : ℕ} → m ≡ wordOf (modeBits (bit (s .flags) 0) (bit (s .flags) 1) word (s .previous))
-      → m / 8 + 64 * wordOf (six (drop 3) outcomes) ≡ wordOf (analogEvents flags duration g period x word time (lookAnalog s))
-  unfolding modeBits readyBits
+      → m / 8 + 64 * wordOf (six (drop 3) outcomes) ≡ wordOf (analogEvents alarm x word time (lookAnalog s))
+  unfolding modeBits readyBits metBits met freesBits frees ackBits
   analog-events p = word-join (_ ∷ _ ∷ _ ∷ _ ∷ _ ∷ _ ∷ []) (six (drop 3) outcomes) (word-halves _ _ _ _ p .1) refl

@@ -5,19 +5,21 @@ use mathlib.Core.Bool.{Bool, true, false, not, _&&_, _||_, cond}
 use mathlib.Core.List.{List, [], _∷_, _++_}
 use Prim.Native.Nat.{ℕ, suc, _+_, _≤_}
 use native.Mathlib.Omega.{arith}
-use lib.Ieee.{Float, binary32, ofBits}
+use lib.Ieee.{binary32, ofBits}
 use lib.Dec.{eqb}
 use lib.ListN.{length, take, drop}
 use Rattle.wire.specs.Bits.{bit}
 use Rattle.wire.proofs.WordLaws.{bit-word}
-use Rattle.settings.specs.declared.types.Limits.{Limits}
+use Rattle.settings.specs.Condition as C
+use Rattle.settings.specs.Condition.{Condition, In}
+use Rattle.settings.specs.declared.types.Alarm.{Alarm}
+use Rattle.settings.specs.declared.types.Reading.{Reading}
 use Rattle.settings.specs.declared.types.Kind.{Kind}
 use Rattle.history.specs.Internal.Condition.{Told, acknowledges, returns, activates}
 use Rattle.level.specs.Rate.{sampleAfter}
-use Rattle.condition.specs.Command.{enables, disables, countResets, resets, acksAll, faults}
-use Rattle.condition.specs.Internal.Outcome.{ackBits}
+use Rattle.condition.specs.Command.{enables, disables, countResets, resets, acksAll, acks, faults}
 use Rattle.condition.specs.Internal.Mode.{disabledAfter, suppressedAfter, wholeEvents}
-use Rattle.alarm.specs.Internal.Held.{DigitalHeld, lookDigital, digitalFlags, hideDigital, Six, HH, H, L, LL, ROCPos, ROCNeg, Side, High, Low, AnalogHeld, runOf, cellOf, lookAnalog, analogFlags, hideAnalog}
+use Rattle.alarm.specs.Internal.Held.{DigitalHeld, lookDigital, digitalFlags, hideDigital, Six, HH, H, L, LL, ROCPos, ROCNeg, Side, High, Low, ofSix, AnalogHeld, runOf, cellOf, lookAnalog, analogFlags, hideAnalog}
 use Rattle.alarm.specs.Internal.Digital.{digitalTold, digitalAfter, digitalEvents}
 use Rattle.alarm.specs.Internal.Analog.{analogTold, cellAfter, analogAfter, cellEvents, analogEvents}
 use Rattle.alarm.specs.Internal.Events.{eventsFrom}
@@ -103,28 +105,28 @@ no-bits : number [] ≡ 0
 unfolding number
 no-bits = refl
 
-module _ (flags duration : ℕ) (input : Bool) (word time : ℕ) (d : DigitalHeld) where
-  pub digital-most : number (digitalEvents flags duration input word time d) ≤ 5
+module _ (a : Alarm) (x : Reading) (word time : ℕ) (d : DigitalHeld) where
+  pub digital-most : number (digitalEvents a x word time d) ≤ 5
   digital-most =
-      let t : Told = digitalTold flags duration input word time d in
+      let t : Told = digitalTold a x word time d in
       let three : List Bool = acknowledges t (d .cell .unacked) ∷ returns t (d .cell .alarm) ∷ activates t (d .cell .alarm) ∷ [] in
       omega (arith, whole-most (d .disabled) (d .suppressed) word (d .previous) three, condition-most t (d .cell .alarm) (d .cell .unacked) [], no-bits)
 
   -- ---- a disabled alarm
 
   pub no-events-digital : disabledAfter word (d .disabled) ≡ true
-      → (drop 6 (digitalEvents flags duration input word time d) ≡ false ∷ false ∷ false ∷ [])
-      × (digitalAfter flags duration input word time d .cell .alarm ≡ false)
-      × (digitalAfter flags duration input word time d .cell .unacked ≡ false)
-      × (digitalAfter flags duration input word time d .cell .row ≡ false)
+      → (drop 6 (digitalEvents a x word time d) ≡ false ∷ false ∷ false ∷ [])
+      × (digitalAfter a x word time d .cell .alarm ≡ false)
+      × (digitalAfter a x word time d .cell .unacked ≡ false)
+      × (digitalAfter a x word time d .cell .row ≡ false)
   no-events-digital h = rw h (refl, refl, refl, refl)
 
-module _ (flags duration : ℕ) (g : Limits) (period : ℕ) (x : Float) (word time : ℕ) (a : AnalogHeld) where
+module _ (a : Alarm) (x : Reading) (word time : ℕ) (h : AnalogHeld) where
   abbrev cell-bits : Six → List Bool → List Bool
-  cell-bits = cellEvents flags duration g period x word time a
+  cell-bits = cellEvents a x word time h
 
   cell-most : (c : Six) (rest : List Bool) → number (cell-bits c rest) ≤ 2 + number rest
-  cell-most c rest = condition-most (analogTold flags duration g period x word time a c) (a .cell c .alarm) (a .cell c .unacked) rest
+  cell-most c rest = condition-most (analogTold a x word time h c) (h .cell c .alarm) (h .cell c .unacked) rest
 
   six-most : number (cell-bits HH (cell-bits H (cell-bits L (cell-bits LL (cell-bits ROCPos (cell-bits ROCNeg [])))))) ≤ 12
   six-most =
@@ -139,24 +141,24 @@ module _ (flags duration : ℕ) (g : Limits) (period : ℕ) (x : Float) (word ti
         no-bits,
       )
 
-  pub analog-most : number (analogEvents flags duration g period x word time a) ≤ 15
+  pub analog-most : number (analogEvents a x word time h) ≤ 15
   analog-most =
-      let w = whole-most (a .disabled) (a .suppressed) word (a .previous) (cell-bits HH (cell-bits H (cell-bits L (cell-bits LL (cell-bits ROCPos (cell-bits ROCNeg [])))))) in
+      let w = whole-most (h .disabled) (h .suppressed) word (h .previous) (cell-bits HH (cell-bits H (cell-bits L (cell-bits LL (cell-bits ROCPos (cell-bits ROCNeg [])))))) in
       omega (arith, w, six-most)
 
-  pub no-events-analog : disabledAfter word (a .disabled) ≡ true → (c : Six) (rest : List Bool)
-      → (cellEvents flags duration g period x word time a c rest ≡ false ∷ false ∷ false ∷ rest)
-      × (analogAfter flags duration g period x word time a .cell c .alarm ≡ false)
-      × (analogAfter flags duration g period x word time a .cell c .unacked ≡ false)
-      × (analogAfter flags duration g period x word time a .cell c .row ≡ false)
-  no-events-analog h c rest = rw h (refl, refl, refl, refl)
+  pub no-events-analog : disabledAfter word (h .disabled) ≡ true → (c : Six) (rest : List Bool)
+      → (cellEvents a x word time h c rest ≡ false ∷ false ∷ false ∷ rest)
+      × (analogAfter a x word time h .cell c .alarm ≡ false)
+      × (analogAfter a x word time h .cell c .unacked ≡ false)
+      × (analogAfter a x word time h .cell c .row ≡ false)
+  no-events-analog e c rest = rw e (refl, refl, refl, refl)
 
-  pub no-rows-analog : disabledAfter word (a .disabled) ≡ true
-      → (analogAfter flags duration g period x word time a .held ≡ false)
-      × ((s : Side) → analogAfter flags duration g period x word time a .run s .on ≡ false)
-      × (analogAfter flags duration g period x word time a .sample .rate ≡ ofBits binary32 0)
+  pub no-rows-analog : disabledAfter word (h .disabled) ≡ true
+      → (analogAfter a x word time h .held ≡ false)
+      × ((s : Side) → analogAfter a x word time h .run s .on ≡ false)
+      × (analogAfter a x word time h .sample .rate ≡ ofBits binary32 0)
   unfolding sampleAfter
-  no-rows-analog h = rw h (refl, λ s. refl, refl)
+  no-rows-analog e = rw e (refl, λ s. refl, refl)
 
 -- ---- suppression
 
@@ -167,7 +169,7 @@ pub record SameCommands (previous word word′ : ℕ) : Type 0 where
   pub count-reset : countResets word previous ≡ countResets word′ previous
   pub reset : resets word previous ≡ resets word′ previous
   pub ack-all : acksAll word previous ≡ acksAll word′ previous
-  pub ack : ackBits word previous ≡ ackBits word′ previous
+  pub ack : (c : Condition) → acks word previous c ≡ acks word′ previous c
   pub fault : faults word ≡ faults word′
 
 -- the bits of suppression
@@ -176,7 +178,7 @@ suppression k = eqb k 4 || eqb k 5 || eqb k 11 || eqb k 12
 
 -- words that agree in every other bit are such words
 pub same-commands : (previous word word′ : ℕ) → ((k : ℕ) → suppression k ≡ false → bit word k ≡ bit word′ k) → SameCommands previous word word′
-unfolding ackBits
+unfolding acks
 same-commands previous word word′ h =
     record {
       enabling = rw (h 3 refl, h 10 refl);
@@ -184,51 +186,60 @@ same-commands previous word word′ h =
       count-reset = rw (h 6 refl);
       reset = rw (h 1 refl, h 8 refl);
       ack-all = rw (h 0 refl, h 7 refl);
-      ack = rw (h 0 refl, h 7 refl, h 13 refl, h 14 refl, h 15 refl, h 16 refl, h 17 refl, h 18 refl, h 19 refl, h 20 refl, h 21 refl, h 22 refl, h 23 refl, h 24 refl);
+      ack = ack;
       fault = h 25 refl;
     }
+  where
+    ack : (c : Condition) → acks word previous c ≡ acks word′ previous c
+    ack In = rw (h 0 refl, h 7 refl)
+    ack C.HH = rw (h 0 refl, h 7 refl, h 13 refl, h 19 refl)
+    ack C.H = rw (h 0 refl, h 7 refl, h 14 refl, h 20 refl)
+    ack C.L = rw (h 0 refl, h 7 refl, h 15 refl, h 21 refl)
+    ack C.LL = rw (h 0 refl, h 7 refl, h 16 refl, h 22 refl)
+    ack C.ROCPos = rw (h 0 refl, h 7 refl, h 17 refl, h 23 refl)
+    ack C.ROCNeg = rw (h 0 refl, h 7 refl, h 18 refl, h 24 refl)
 
-module _ (flags duration : ℕ) (input : Bool) (word word′ time : ℕ) (d : DigitalHeld) (e : SameCommands (d .previous) word word′) where
+module _ (a : Alarm) (x : Reading) (word word′ time : ℕ) (d : DigitalHeld) (e : SameCommands (d .previous) word word′) where
   -- suppression changes only whether the alarm is suppressed
-  pub suppress-only-digital : digitalAfter flags duration input word′ time d
+  pub suppress-only-digital : digitalAfter a x word′ time d
       ≡ record {
-        disabled = digitalAfter flags duration input word time d .disabled;
+        disabled = digitalAfter a x word time d .disabled;
         suppressed = suppressedAfter word′ (d .suppressed);
-        faulted = digitalAfter flags duration input word time d .faulted;
+        faulted = digitalAfter a x word time d .faulted;
         previous = word′;
-        cell = digitalAfter flags duration input word time d .cell;
+        cell = digitalAfter a x word time d .cell;
       }
   suppress-only-digital = rw (e .enabling, e .disabling, e .reset, e .ack-all, e .fault)
 
   -- and, of the events, only the third and the fourth, suppressed and unsuppressed
-  pub suppress-events-digital : (take 2 (digitalEvents flags duration input word′ time d) ≡ take 2 (digitalEvents flags duration input word time d))
-      × (drop 4 (digitalEvents flags duration input word′ time d) ≡ drop 4 (digitalEvents flags duration input word time d))
+  pub suppress-events-digital : (take 2 (digitalEvents a x word′ time d) ≡ take 2 (digitalEvents a x word time d))
+      × (drop 4 (digitalEvents a x word′ time d) ≡ drop 4 (digitalEvents a x word time d))
   suppress-events-digital = rw (e .enabling, e .disabling, e .count-reset, e .reset, e .ack-all) (refl, refl)
 
-module _ (flags duration : ℕ) (g : Limits) (period : ℕ) (x : Float) (word word′ time : ℕ) (a : AnalogHeld) (e : SameCommands (a .previous) word word′) where
-  run-same : (s : Side) → analogAfter flags duration g period x word time a .run s ≡ analogAfter flags duration g period x word′ time a .run s
+module _ (a : Alarm) (x : Reading) (word word′ time : ℕ) (h : AnalogHeld) (e : SameCommands (h .previous) word word′) where
+  run-same : (s : Side) → analogAfter a x word time h .run s ≡ analogAfter a x word′ time h .run s
   run-same High = rw (e .enabling, e .disabling)
   run-same Low = rw (e .enabling, e .disabling)
 
-  cell-same : (c : Six) → cellAfter flags duration g period x word time a c ≡ cellAfter flags duration g period x word′ time a c
-  cell-same c = rw (e .enabling, e .disabling, e .ack)
+  cell-same : (c : Six) → cellAfter a x word time h c ≡ cellAfter a x word′ time h c
+  cell-same c = rw (e .enabling, e .disabling, e .ack (ofSix c))
 
-  pub suppress-only-analog : analogAfter flags duration g period x word′ time a
+  pub suppress-only-analog : analogAfter a x word′ time h
       ≡ record {
-        disabled = analogAfter flags duration g period x word time a .disabled;
-        suppressed = suppressedAfter word′ (a .suppressed);
-        faulted = analogAfter flags duration g period x word time a .faulted;
-        held = analogAfter flags duration g period x word time a .held;
+        disabled = analogAfter a x word time h .disabled;
+        suppressed = suppressedAfter word′ (h .suppressed);
+        faulted = analogAfter a x word time h .faulted;
+        held = analogAfter a x word time h .held;
         previous = word′;
-        sample = analogAfter flags duration g period x word time a .sample;
-        run = analogAfter flags duration g period x word time a .run;
-        cell = analogAfter flags duration g period x word time a .cell;
+        sample = analogAfter a x word time h .sample;
+        run = analogAfter a x word time h .run;
+        cell = analogAfter a x word time h .cell;
       }
   suppress-only-analog = rw (fun-ext run-same, fun-ext cell-same, e .enabling, e .disabling, e .fault)
 
-  pub suppress-events-analog : (take 2 (analogEvents flags duration g period x word′ time a) ≡ take 2 (analogEvents flags duration g period x word time a))
-      × (drop 4 (analogEvents flags duration g period x word′ time a) ≡ drop 4 (analogEvents flags duration g period x word time a))
-  suppress-events-analog = rw (e .enabling, e .disabling, e .count-reset, e .ack) (refl, refl)
+  pub suppress-events-analog : (take 2 (analogEvents a x word′ time h) ≡ take 2 (analogEvents a x word time h))
+      × (drop 4 (analogEvents a x word′ time h) ≡ drop 4 (analogEvents a x word time h))
+  suppress-events-analog = rw (e .enabling, e .disabling, e .count-reset, fun-ext (e .ack)) (refl, refl)
 
 -- ---- events written
 

@@ -2,6 +2,7 @@
 ghost use mathlib.Core.Path.{_≡_};
 ghost use Prim.Native.Nat.{_<_};
 ghost use Rattle.wire.specs.Internal.Words.{wordOf, spread};
+ghost use Rattle.level.specs.Internal.Bits.{analogOf};
 ghost use Rattle.alarm.specs.Internal.Analog.{analogStep};
 ghost use Rattle.alarm.specs.Internal.Packed.{readyBits, startsAfter, resampled, decided};
 use crate::rest::analog_rest;
@@ -16,6 +17,7 @@ use level::level::met_word;
 use level::rate::Sample;
 use level::rate::sample_after;
 use settings::types::Limits;
+use settings::types::Reading;
 use six::decide::Cells;
 use six::decide::decide;
 use wire::bits::spread6;
@@ -48,15 +50,15 @@ fn restart(s: State, time: u64) -> State
 }
 
 // The sample after the scan.
-fn resample(s: State, period: u32, enabled: bool, x: f32, time: u64) -> Sample
-    ensures { λ r. ⌜ r ≡ resampled s period enabled x time ⌝ }
+fn resample(s: State, period: u32, enabled: bool, reading: Reading, time: u64) -> Sample
+    ensures { λ r. ⌜ r ≡ resampled s period enabled reading time ⌝ }
 {
     let stored = Sample {
         value: s.sample,
         rate: s.rate,
         at: s.sampled,
     };
-    sample_after(period, enabled, s.flags / 8 % 2 == 1, time, x, stored)
+    sample_after(period, enabled, s.flags / 8 % 2 == 1, time, reading, stored)
 }
 
 // Decides the conditions, of a state whose runs already begin where this scan's do.
@@ -67,13 +69,13 @@ fn conditions(
     s: State,
     enabled: bool,
     met: u32,
-    x: f32,
+    reading: Reading,
     word: u32,
     time: u64,
 ) -> Cells
-    ensures { λ r. ⌜ (r ≡ decided flags duration g s enabled met x word time) × (r .kept < 262144) × (r .events < 262144) ⌝ }
+    ensures { λ r. ⌜ (r ≡ decided flags duration g s enabled met reading word time) × (r .kept < 262144) × (r .events < 262144) ⌝ }
 {
-    let frees = frees_word(g, x);
+    let frees = frees_word(g, reading);
     let acks = ack_word(word, s.previous);
     let ready = ready_word(s.flags, s.high, s.low, duration, time);
     decide(
@@ -93,22 +95,22 @@ pub fn analog_step(
     g: Limits,
     period: u32,
     s: State,
-    x: f32,
+    reading: Reading,
     word: u32,
     time: u64,
 ) -> Stepped
-    ensures { λ r. ⌜ r ≡ analogStep flags duration g period s x word time ⌝ }
+    ensures { λ r. ⌜ r ≡ analogStep (analogOf flags duration g period) s reading word time ⌝ }
 {
     let m = modes(s.flags, word, s.previous);
     let enabled = !(m % 2 == 1);
-    let sample = resample(s, period, enabled, x, time);
-    let met = met_word(flags, g, period, x, sample.rate);
+    let sample = resample(s, period, enabled, reading, time);
+    let met = met_word(flags, g, period, reading, sample.rate);
     // at rest the flags say only that a sample is stored
     if (word == 0) & (s.flags == 8) & (met == 0) {
         return analog_rest(s, sample, time);
     }
     let mut next = restart(s, time);
-    let six = conditions(flags, duration, g, next, enabled, met, x, word, time);
+    let six = conditions(flags, duration, g, next, enabled, met, reading, word, time);
     let high = enabled & ((met % 2 == 1) | (met / 8 % 2 == 1));
     let low = enabled & ((met / 64 % 2 == 1) | (met / 512 % 2 == 1));
     next.flags = m % 8 + 8 * word3(enabled, high, low) + 64 * six.kept;

@@ -1,6 +1,5 @@
 // An alarm under test: its settings, its state, and the marks of its conditions.
 use alarm::state::State;
-use alarm::step::Reading;
 use alarm::step::step;
 use alarm_text::mark::Mark;
 use alarm_text::mark::blank_mark;
@@ -9,6 +8,7 @@ use case_text::hex_text::put_image;
 use reader::read::read;
 use settings::types::Alarm;
 use settings::types::Kind;
+use settings::types::Reading;
 
 pub struct Bench {
     pub alarm: Alarm,

@@ -1,7 +1,7 @@
 // A reading as text.
-use alarm::step::Reading;
 use case_text::parse::begins_with;
 use case_text::words::hex;
+use settings::types::Reading;
 use wire::real::from_pattern;
 
 // A reading: `0` or `1`, or a REAL as `x`, which counts as a 0, and the hex digits of its pattern.

@@ -1,69 +1,133 @@
 -- What the step keeps of an analog alarm is what the scans say. Assumes nothing.
-use Prim.Native.Nat.{ℕ}
-use mathlib.Core.Path.{_≡_, refl, sym, ap, ap₂, subst₂, _∙_}
-use mathlib.Core.List.{List, [], _∷_}
-use mathlib.Core.Bool.{Bool, false, not, _&&_, _||_}
-use lib.ListN.{getD}
-use lib.Ieee.{Float}
-use Rattle.history.specs.Past.{since, holds, rowStart}
-use Rattle.history.specs.Demand.{Facts}
-use Rattle.history.specs.Internal.Condition.{kept, told, acknowledges, returns, activates, alarmAfter, unackedAfter}
-use Rattle.history.specs.Words.{Demand3}
-use Rattle.history.proofs.Condition.{kept-count}
-use Rattle.history.proofs.Demand.{demand}
-use Rattle.condition.specs.Internal.Mark.{Marks, marksAfter}
+use Prim.Native.Nat.{ℕ, _-_}
+use mathlib.Core.Path.{_≡_, refl, sym, ap, fun-ext, _∙_}
+use mathlib.Core.List.{List, [], _∷_, _++_, foldr}
+use mathlib.Core.Bool.{Bool, true, false, not, _&&_, _||_, or-true, or-false}
+use lib.Dec.{leb}
+use Rattle.settings.specs.Alarm.{ackRequired, periodOf}
+use Rattle.settings.specs.Condition as C
+use Rattle.settings.specs.Condition.{Condition, sideHas, isRate}
+use Rattle.settings.specs.declared.types.Alarm.{Alarm}
 use Rattle.settings.specs.declared.types.Limits.{Limits}
-use Rattle.condition.specs.Internal.Outcome.{ackBits, toldOf}
-use Rattle.condition.specs.Command.{faults}
-use Rattle.level.specs.Level.{metBits, freesBits}
+use Rattle.settings.specs.declared.types.Severities.{Severities}
+use Rattle.settings.specs.declared.types.Kind.the-variants.{Analog}
+use Rattle.settings.specs.declared.types.Reading.{Reading}
+use Rattle.history.specs.Past.{Fact, since, holds, rowStart}
+use Rattle.history.specs.Demand.{activation, answer, return}
+use Rattle.history.specs.Internal.Condition.{kept, told, alarmAfter, unackedAfter, acknowledges, returns, activates}
+use Rattle.history.proofs.Condition.{kept-answers, kept-returns, kept-activates}
+use Rattle.level.specs.Level.{met, frees}
 use Rattle.level.specs.Rate.{sampleAfter}
 use Rattle.level.specs.declared.rate.Sample.{Sample}
-use Rattle.alarm.specs.Internal.Held.{Six, HH, H, L, LL, ROCPos, ROCNeg, Side, High, Low, place, AnalogHeld}
-use Rattle.alarm.specs.Internal.Analog.{analogRequired, analogEnabled, sideMet, analogReady, analogAfter}
-use Rattle.alarm_history.specs.Scans.{Scan, previous, enabled, countReset}
-use Rattle.alarm_history.specs.Analog.{sampleIn, met, run, lasted, beside, analogFacts}
-use Rattle.alarm_history.specs.Internal.After.{analogRun, analogFrom, analogMarksAfter, analogMarks}
-use Rattle.alarm_history.specs.Report.{own, marksIn}
-use Rattle.alarm_history.proofs.Marks.{marksKept, marks-kept}
+use Rattle.condition.specs.Command.{resets, acks, faults}
+use Rattle.condition.specs.Internal.Mark.{Turn}
+use Rattle.alarm.specs.Internal.Held.{Six, HH, H, L, LL, ROCPos, ROCNeg, Side, High, Low, ofSix, AnalogHeld}
+use Rattle.alarm.specs.Internal.Analog.{analogRequired, analogEnabled, sideMet, analogReady, analogTold, analogAfter, cellEvents, analogEvents}
+use Rattle.alarm_history.specs.Scans.{Scan, previous, enabled, countReset, disabledIn, suppressedIn}
+use Rattle.alarm_history.specs.Facts.{sampleIn, metIn, freesIn, run, facts}
+use Rattle.alarm_history.specs.Stamps.{ownStart}
+use Rattle.alarm_history.specs.Internal.After.{levelOf, analogRun, keptIn, own, analogFrom, analogTurn, analogMarks, turnIn, marksIn, changes, wholeBits, conditionBits}
+use Rattle.alarm_history.proofs.Marks.{clear, marks-kept}
 use Rattle.alarm_history.proofs.Modes.{disabled-next, suppressed-next}
 
-module _ (flags duration : ℕ) (g : Limits) (period : ℕ) where
-  module _ (s : Scan Float) (past : List (Scan Float)) where
+-- a condition of a side adds nothing to its side
+first-of : (x y : Bool) → x || (x || y) ≡ x || y
+first-of true y = refl
+first-of false y = refl
+
+second-of : (x y : Bool) → y || (x || y) ≡ x || y
+second-of true true = refl
+second-of true false = refl
+second-of false true = refl
+second-of false false = refl
+
+-- a reset is nothing to an analog alarm
+no-reset : (a : Alarm) (c : Six) (x : Reading) (r : Bool) → frees a (ofSix c) x false ≡ frees a (ofSix c) x r
+unfolding frees
+no-reset a HH x r = refl
+no-reset a H x r = refl
+no-reset a L x r = refl
+no-reset a LL x r = refl
+no-reset a ROCPos x r = refl
+no-reset a ROCNeg x r = refl
+
+-- AckRequired
+pub analog-required : (a : Alarm) {limits : Limits} {severities : Severities} {period : ℕ} → a .kind ≡ Analog limits severities period
+    → analogRequired (a .flags) ≡ ackRequired (a .kind) (a .flags)
+analog-required a k = rw k
+
+module _ (a : Alarm) (required : analogRequired (a .flags) ≡ ackRequired (a .kind) (a .flags)) where
+  -- the levels of a side have one run
+  high-run : run a C.HH ≡ run a C.H
+  high-run =
+      fun-ext
+      (λ s. fun-ext
+      (λ past. ap (λ (m : Bool). enabled s past && m) (first-of (metIn a C.HH s past) (metIn a C.H s past) ∙ sym (second-of (metIn a C.HH s past) (metIn a C.H s past)))))
+
+  low-run : run a C.L ≡ run a C.LL
+  low-run =
+      fun-ext
+      (λ s. fun-ext
+      (λ past. ap (λ (m : Bool). enabled s past && m) (first-of (metIn a C.L s past) (metIn a C.LL s past) ∙ sym (second-of (metIn a C.L s past) (metIn a C.LL s past)))))
+
+  module _ (s : Scan) (past : List Scan) where
     -- the state before the scan, read off the scans
     abbrev from : AnalogHeld
-    from = analogFrom flags duration g period past
+    from = analogFrom a past
+
+    abbrev was : Condition → Bool
+    was c = keptIn a past c .alarm
+
+    -- a run has lasted
+    abbrev lasted : Fact Scan → Bool
+    lasted p = leb (a .duration) (s .time - rowStart (λ x. x .time) p (s ∷ past))
 
     -- a condition is ready as the step has it
-    ready : (c : Six)
-        → analogReady flags duration g period (s .reading) (s .word) (s .time) from c
-        ≡ lasted flags duration g period c s past || beside flags duration g period c (λ d. kept (analogFacts flags duration g period) past d .alarm)
+    ready : (c : Six) → analogReady a (s .reading) (s .word) (s .time) from c
+        ≡ facts a .lasted (ofSix c) s past || (sideHas (ofSix c) was || isRate (ofSix c))
     unfolding rowStart
-    ready HH = refl
-    ready H = refl
-    ready L = refl
-    ready LL = refl
-    ready ROCPos = refl
-    ready ROCNeg = refl
+    ready HH = ap (λ (b : Bool). lasted (run a C.HH) || b) (sym (or-false (was C.HH || was C.H)))
+    ready H = λ i. lasted (high-run i) || sym (or-false (was C.HH || was C.H)) i
+    ready L = ap (λ (b : Bool). lasted (run a C.L) || b) (sym (or-false (was C.L || was C.LL)))
+    ready LL = λ i. lasted (low-run i) || sym (or-false (was C.L || was C.LL)) i
+    ready ROCPos = sym (or-true (lasted (run a C.ROCPos)))
+    ready ROCNeg = sym (or-true (lasted (run a C.ROCNeg)))
 
     -- the scan, by whether it leaves the alarm disabled
     abbrev sampled : Bool → Sample
-    sampled d = sampleAfter period (not d) (holds enabled past) (s .time) (s .reading) (sampleIn flags duration g period past)
+    sampled d = sampleAfter (periodOf (a .kind)) (not d) (holds enabled past) (s .time) (s .reading) (sampleIn a past)
 
-    abbrev metBy : Bool → Six → Bool
-    metBy d c = getD (metBits flags g period (s .reading) (sampled d .rate)) (place c) false
+    abbrev metBy : Bool → Condition → Bool
+    metBy d c = met a c (s .reading) (sampled d .rate)
+
+    told-is : (c : Six) → analogTold a (s .reading) (s .word) (s .time) from c ≡ told (facts a) (freesIn a) was (ofSix c) s past
+    unfolding sampleIn
+    told-is c =
+        let d = sym (disabled-next s past) in
+        λ i.
+        record {
+          enabled = not (d i);
+          met = metBy (d i) (ofSix c);
+          frees = no-reset a c (s .reading) (resets (s .word) (previous past)) i;
+          ready = ready c i;
+          ack = acks (s .word) (previous past) (ofSix c);
+          required = required i;
+        }
 
     -- a side's run goes on as the step has it
     goes-on : (side : Side)
-        → analogEnabled flags duration g period (s .reading) (s .word) (s .time) from && sideMet flags duration g period (s .reading) (s .word) (s .time) from side
-        ≡ run flags duration g period side s past
+        → analogEnabled a (s .reading) (s .word) (s .time) from && sideMet a (s .reading) (s .word) (s .time) from side ≡ run a (levelOf side) s past
     unfolding sampleIn
-    goes-on High = ap (λ (d : Bool). not d && (metBy d HH || metBy d H)) (sym (disabled-next s past))
-    goes-on Low = ap (λ (d : Bool). not d && (metBy d L || metBy d LL)) (sym (disabled-next s past))
+    goes-on High =
+        ap (λ (d : Bool). not d && (metBy d C.HH || metBy d C.H)) (sym (disabled-next s past))
+        ∙ ap (λ (m : Bool). enabled s past && m) (sym (first-of (metIn a C.HH s past) (metIn a C.H s past)))
+    goes-on Low =
+        ap (λ (d : Bool). not d && (metBy d C.L || metBy d C.LL)) (sym (disabled-next s past))
+        ∙ ap (λ (m : Bool). enabled s past && m) (sym (first-of (metIn a C.L s past) (metIn a C.LL s past)))
 
-    next : analogAfter flags duration g period (s .reading) (s .word) (s .time) from ≡ analogFrom flags duration g period (s ∷ past)
+    next : analogAfter a (s .reading) (s .word) (s .time) from ≡ analogFrom a (s ∷ past)
     unfolding kept rowStart since sampleIn
     next =
-        let k = kept (analogFacts flags duration g period) past in
         let d = sym (disabled-next s past) in
         let e = sym (suppressed-next s past) in
         λ i.
@@ -74,60 +138,61 @@ module _ (flags duration : ℕ) (g : Limits) (period : ℕ) where
           held = not (d i);
           previous = s .word;
           sample = sampled (d i);
-          run = λ side. record { on = goes-on side i; start = rowStart (λ x. x .time) (run flags duration g period side) (s ∷ past) };
+          run = λ side. record { on = goes-on side i; start = rowStart (λ x. x .time) (run a (levelOf side)) (s ∷ past) };
           cell = λ c.
               record {
-                alarm = alarmAfter (toldOf (not (d i)) (metBy (d i) c) (getD (freesBits g (s .reading)) (place c) false) (ready c i) (getD (ackBits (s .word) (previous past)) (place c) false) (analogRequired flags)) (k c .alarm);
-                unacked = unackedAfter (toldOf (not (d i)) (metBy (d i) c) (getD (freesBits g (s .reading)) (place c) false) (ready c i) (getD (ackBits (s .word) (previous past)) (place c) false) (analogRequired flags)) (k c .alarm) (k c .unacked);
-                row = not (d i) && metBy (d i) c;
-                start = rowStart (λ x. x .time) (λ s past. enabled s past && met flags duration g period c s past) (s ∷ past);
+                alarm = alarmAfter (told-is c i) (was (ofSix c));
+                unacked = unackedAfter (told-is c i) (was (ofSix c)) (keptIn a past (ofSix c) .unacked);
+                row = not (d i) && metBy (d i) (ofSix c);
+                start = rowStart (λ x. x .time) (own a (ofSix c)) (s ∷ past);
               };
         }
 
-  pub analog-run : (scans : List (Scan Float)) → analogRun flags duration g period scans ≡ analogFrom flags duration g period scans
+    -- kinds 6, 7, 8 of a condition as the scans have them
+    answer-is : (c : Six) → acknowledges (analogTold a (s .reading) (s .word) (s .time) from c) (keptIn a past (ofSix c) .unacked) ≡ answer (facts a) (ofSix c) s past
+    answer-is c = ap (λ t. acknowledges t (keptIn a past (ofSix c) .unacked)) (told-is c) ∙ kept-answers (facts a) (freesIn a) (clear a) s past (ofSix c)
+
+    return-is : (c : Six) → returns (analogTold a (s .reading) (s .word) (s .time) from c) (was (ofSix c)) ≡ return (facts a) (ofSix c) s past
+    return-is c = ap (λ t. returns t (was (ofSix c))) (told-is c) ∙ kept-returns (facts a) (freesIn a) (clear a) s past (ofSix c)
+
+    activation-is : (c : Six) → activates (analogTold a (s .reading) (s .word) (s .time) from c) (was (ofSix c)) ≡ activation (facts a) (ofSix c) s past
+    activation-is c = ap (λ t. activates t (was (ofSix c))) (told-is c) ∙ kept-activates (facts a) (freesIn a) (clear a) s past (ofSix c)
+
+    turn-is : (c : Six) → analogTurn a s from c ≡ turnIn a (ofSix c) s past
+    unfolding rowStart
+    turn-is c =
+        λ i.
+        record {
+          reset = countReset s past;
+          acknowledged = answer-is c i;
+          returned = return-is c i;
+          activated = activation-is c i;
+          required = required i;
+          start = ownStart a (ofSix c) s past;
+          time = s .time;
+        }
+
+    -- the event bits of the step
+    cell-bits : (c : Six) {rest rest′ : List Bool} → rest ≡ rest′
+        → cellEvents a (s .reading) (s .word) (s .time) from c rest ≡ conditionBits a s past (ofSix c) rest′
+    cell-bits c e = λ i. answer-is c i ∷ return-is c i ∷ activation-is c i ∷ e i
+
+    pub analog-bits : analogEvents a (s .reading) (s .word) (s .time) from
+        ≡ wholeBits s past ++ foldr (conditionBits a s past) [] (C.HH ∷ C.H ∷ C.L ∷ C.LL ∷ C.ROCPos ∷ C.ROCNeg ∷ [])
+    analog-bits =
+        let d = sym (disabled-next s past) in
+        let e = sym (suppressed-next s past) in
+        let six = cell-bits HH (cell-bits H (cell-bits L (cell-bits LL (cell-bits ROCPos (cell-bits ROCNeg refl))))) in
+        λ i. changes (disabledIn past) (suppressedIn past) (d i) (e i) (countReset s past) ++ six i
+
+  pub analog-run : (scans : List Scan) → analogRun a scans ≡ analogFrom a scans
   unfolding analogRun kept rowStart since sampleIn
   analog-run [] = refl
-  analog-run (s ∷ past) = ap (analogAfter flags duration g period (s .reading) (s .word) (s .time)) (analog-run past) ∙ next s past
-
-  -- what the scans say
-  abbrev facts : Facts (Scan Float) Six
-  facts = analogFacts flags duration g period
-
-  marks-next : (s : Scan Float) (past : List (Scan Float)) (c : Six) (m : Marks)
-      → analogMarksAfter flags duration g period s (analogFrom flags duration g period past) c m
-      ≡ marksAfter (countReset s past)
-      (acknowledges (told facts (λ d. kept facts past d .alarm) c s past) (kept facts past c .unacked))
-      (returns (told facts (λ d. kept facts past d .alarm) c s past) (kept facts past c .alarm))
-      (activates (told facts (λ d. kept facts past d .alarm) c s past) (kept facts past c .alarm))
-      (analogRequired flags) (rowStart (λ x. x .time) (own facts (λ x. x .time) c) (s ∷ past)) (s .time) m
-  unfolding rowStart sampleIn
-  marks-next s past c m =
-      let k = kept facts past c in
-      let d = sym (disabled-next s past) in
-      let r = ready s past c in
-      let frees = getD (freesBits g (s .reading)) (place c) false in
-      let ack = getD (ackBits (s .word) (previous past)) (place c) false in
-      λ i.
-      marksAfter (countReset s past) (acknowledges (toldOf (not (d i)) (metBy s past (d i) c) frees (r i) ack (analogRequired flags)) (k .unacked))
-      (returns (toldOf (not (d i)) (metBy s past (d i) c) frees (r i) ack (analogRequired flags)) (k .alarm))
-      (activates (toldOf (not (d i)) (metBy s past (d i) c) frees (r i) ack (analogRequired flags)) (k .alarm))
-      (analogRequired flags) (rowStart (λ x. x .time) (own facts (λ x. x .time) c) (s ∷ past)) (s .time) m
-
-  analog-marks : (scans : List (Scan Float)) (c : Six) → analogMarks flags duration g period scans c ≡ marksKept facts (λ x. x .time) c scans
-  unfolding analogMarks marksKept
-  analog-marks [] c = refl
-  analog-marks (s ∷ past) c =
-      ap₂ (λ (a : AnalogHeld) (m : Marks). analogMarksAfter flags duration g period s a c m) (analog-run past) (analog-marks past c)
-      ∙ marks-next s past c (marksKept facts (λ x. x .time) c past)
+  analog-run (s ∷ past) = ap (analogAfter a (s .reading) (s .word) (s .time)) (analog-run past) ∙ next s past
 
   -- counts and stamps of an analog alarm's conditions, from the scans alone
-  pub analog-report : (scans : List (Scan Float)) (c : Six) → analogMarks flags duration g period scans c ≡ marksIn facts (λ x. x .time) c scans
-  analog-report scans c = analog-marks scans c ∙ marks-kept facts (λ x. x .time) c scans
-
-  -- demand 3 of an analog alarm's conditions
-  pub analog-demand : (scans : List (Scan Float)) (c : Six)
-      → Demand3 facts (analogRun flags duration g period scans .cell c .alarm) (analogRun flags duration g period scans .cell c .unacked)
-      (analogMarks flags duration g period scans c .count) scans c
-  analog-demand scans c =
-      let n = sym (ap (λ (m : Marks). m .count) (analog-report scans c) ∙ sym (kept-count facts scans c)) in
-      subst₂ (λ (a : AnalogHeld) (n : ℕ). Demand3 facts (a .cell c .alarm) (a .cell c .unacked) n scans c) (sym (analog-run scans)) n (demand facts scans c)
+  pub analog-report : (scans : List Scan) (c : Six) → analogMarks a scans c ≡ marksIn a (ofSix c) scans
+  unfolding analogMarks
+  analog-report scans c =
+      marks-kept a (ofSix c) (λ l. analogMarks a l c) (λ s past. analogTurn a s (analogRun a past) c) refl (λ s past. refl)
+      (λ s past. ap (λ h. analogTurn a s h c) (analog-run past) ∙ turn-is s past c) scans

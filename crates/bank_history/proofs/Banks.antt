@@ -1,15 +1,13 @@
 -- What a bank keeps is what settings and accepted records say: a fresh bank, and one more record. Assumes nothing.
 use mathlib.Core.Path.{_≡_, refl, sym, ap, fun-ext, subst, _∙_}
-use mathlib.Core.Bool.{Bool, false}
-use mathlib.Core.List.{List, [], _∷_, map}
+use mathlib.Core.Bool.{false}
+use mathlib.Core.List.{List, [], _∷_}
 use Prim.Native.Nat.{ℕ, zero, suc, _+_, _*_, _≤_, _<_}
 use native.Mathlib.Omega.{arith}
-use borrow.Author.Tests.{lt-ltb, le-ltb}
-use lib.Ieee.{Float}
 use lib.ListN.{length, getD, replicate, length-replicate, getD-replicate}
 use Rattle.wire.specs.Bits.{bit}
 use Rattle.condition.specs.Internal.Mark.{marksAfter, timeStampAfter, noMarks}
-use Rattle.settings.specs.Alarm.{blank}
+use Rattle.settings.specs.Alarm.{blank, ackRequired}
 use Rattle.settings.specs.Internal.Sound.{Sound}
 use Rattle.settings.specs.declared.types.Alarm.{Alarm}
 use Rattle.settings.specs.declared.types.Settings.{Settings}
@@ -17,36 +15,32 @@ use Rattle.settings.specs.declared.types.Limits.{Limits}
 use Rattle.settings.specs.declared.types.Severities.{Severities}
 use Rattle.settings.specs.declared.types.Kind.{Kind}
 use Rattle.settings.specs.declared.types.Kind.the-variants.{Digital, Analog}
-use Rattle.settings.specs.declared.types.Form.the-variants.{Digital as DigitalForm}
+use Rattle.settings.specs.declared.types.Form.the-variants.{Digital as DigitalForm, Analog as AnalogForm}
+use Rattle.settings.specs.declared.reply.Reply.the-variants.{Accepted}
 use Rattle.image.specs.Internal.Accepted.{AcceptedFrom}
 use Rattle.alarm.specs.Internal.Held.{freshState, lookDigital, lookAnalog, runOf, cellOf, Six, HH, H, L, LL, ROCPos, ROCNeg, Side, High, Low, place}
-use Rattle.alarm.specs.Internal.Digital.{digitalStep}
-use Rattle.alarm.specs.Internal.Analog.{analogStep}
-use Rattle.alarm.specs.Internal.Step.{stepKind}
+use Rattle.alarm.specs.Internal.Digital.{digitalRequired, digitalStep}
+use Rattle.alarm.specs.Internal.Analog.{analogRequired, analogStep}
+use Rattle.alarm.specs.Internal.Step.{stepKind, stepOf}
 use Rattle.alarm.specs.declared.state.State.{State}
 use Rattle.alarm.specs.declared.state.Stepped.{Stepped}
 use Rattle.alarm_history.specs.Scans.{Scan}
-use Rattle.alarm_history.specs.Internal.After.{freshAnalog, digitalRun, analogRun, digitalMarks, analogMarks}
-use Rattle.alarm_history.specs.Elapsed.{resetStamp}
+use Rattle.alarm_history.specs.Internal.After.{freshAnalog, resetKept, digitalRun, analogRun, digitalMarks, analogMarks}
+use Rattle.alarm_history.proofs.Digital.{digital-required}
+use Rattle.alarm_history.proofs.Analog.{analog-required}
 use Rattle.scan_record.specs.Part.{timeOf}
-use Rattle.marks.specs.Internal.Marks.{marksAt, startAt, requiredOf}
+use Rattle.scan_record.specs.declared.entry.Entry.{Entry}
+use Rattle.scan_record.proofs.Entries.{PartRead, all-read, accepted-says}
+use Rattle.marks.specs.Internal.Marks.{marksAt, turnAt}
 use Rattle.marks.proofs.Reading.{marks-length, mark-read, reset-read}
-use Rattle.steps.specs.Internal.Plan.{stepPart, stepAt, planOf}
+use Rattle.steps.specs.Internal.Plan.{stepEntry, stepPart, stepAt, planOf}
 use Rattle.steps.proofs.Alarms.{length-placed, placed-below}
 use Rattle.steps.proofs.Counts.{word-at}
 use Rattle.bank.specs.Internal.Bank.{freshBank}
-use Rattle.bank.specs.Internal.Scan.{alarmsOf, planFor, bankAfter}
+use Rattle.bank.specs.Internal.Scan.{checkOf, alarmsOf, planFor, bankAfter}
 use Rattle.bank.specs.declared.bank.Bank.{Bank}
-use Rattle.bank_history.specs.Scans.{digitalScan, analogScan}
+use Rattle.bank_history.specs.Answers.{alarmAt, scanAt, scansAt, lastAccepted}
 use Rattle.bank_history.proofs.Views.{DigitalView, digital-view, AnalogView, analog-view}
-
--- the time of the last record
-abbrev pub lastOf : List (List ℕ) → ℕ
-lastOf [] = 0
-lastOf (rec ∷ past) = timeOf rec
-
-abbrev pub alarmAt : Bank → ℕ → Alarm
-alarmAt b p = getD (b .settings .alarms) p blank
 
 abbrev pub stateAt : Bank → ℕ → State
 stateAt b p = getD (b .states) p freshState
@@ -54,15 +48,13 @@ stateAt b p = getD (b .states) p freshState
 -- a bank with accepted settings keeps what those records say, the latest first
 pub record Kept (image : List ℕ) (past : List (List ℕ)) (b : Bank) : Type 0 where
   pub sound : AcceptedFrom image (b .settings)
-  pub time : b .time ≡ lastOf past
+  pub time : b .time ≡ lastAccepted past
   pub states-long : length (b .states) ≡ 24
   pub marks-long : length (b .marks) ≡ 600
   pub digital : (p : ℕ) → p < b .settings .digital
-      → DigitalView (alarmAt b p .flags) (alarmAt b p .duration) (stateAt b p) (b .marks) (25 * p) (map (digitalScan (b .settings .digital) p) past)
+      → DigitalView (alarmAt (b .settings) p) (stateAt b p) (b .marks) (25 * p) (scansAt (b .settings) p past)
   pub analog : (p : ℕ) → b .settings .digital ≤ p → p < b .settings .digital + b .settings .analog
-      → (g : Limits) (severities : Severities) (period : ℕ) → alarmAt b p .kind ≡ Analog g severities period
-      → AnalogView (alarmAt b p .flags) (alarmAt b p .duration) g period (stateAt b p) (b .marks) (25 * p)
-      (map (analogScan (b .settings .digital) p) past)
+      → AnalogView (alarmAt (b .settings) p) (stateAt b p) (b .marks) (25 * p) (scansAt (b .settings) p past)
 
 -- ---- a fresh bank
 
@@ -102,7 +94,7 @@ fresh-analog =
     }
 
 pub fresh-kept : (image : List ℕ) (s : Settings) → AcceptedFrom image s → Kept image [] (freshBank s)
-unfolding freshBank digitalRun analogRun digitalMarks analogMarks resetStamp
+unfolding freshBank digitalRun analogRun digitalMarks analogMarks resetKept
 fresh-kept image s ok =
     record {
       sound = ok;
@@ -115,7 +107,7 @@ fresh-kept image s ok =
             marked = no-marks (25 * p + 1);
             stamped = zeros 600 (25 * p);
           };
-      analog = λ p l h g severities period k.
+      analog = λ p l h.
           record {
             held = ap lookAnalog (getD-replicate 24 p freshState freshState (omega (arith, ok .digital-most, ok .analog-most))) ∙ fresh-analog;
             marked = λ c. no-marks (25 * p + 1 + 4 * place c);
@@ -123,26 +115,72 @@ fresh-kept image s ok =
           };
     }
 
--- ---- one more record
+-- ---- the kinds of accepted alarms
 
 pub digital-kind : (k : Kind) (flags duration : ℕ) → Sound DigitalForm k flags duration → (severity : ℕ) × (k ≡ Digital severity)
 digital-kind (Digital severity) flags duration h = (severity, refl)
 digital-kind (Analog g severities period) flags duration h = absurd h
 
-module _ (image : List ℕ) (past : List (List ℕ)) (b : Bank) (rec : List ℕ) (v : Kept image past b) where
+pub analog-kind : (k : Kind) (flags duration : ℕ) → Sound AnalogForm k flags duration
+    → (g : Limits) × (severities : Severities) × (period : ℕ) × (k ≡ Analog g severities period)
+analog-kind (Digital severity) flags duration h = absurd h
+analog-kind (Analog g severities period) flags duration h = (g, severities, period, refl)
+
+place-six : (c : Six) → place c < 6
+place-six HH = omega arith
+place-six H = omega arith
+place-six L = omega arith
+place-six LL = omega arith
+place-six ROCPos = omega arith
+place-six ROCNeg = omega arith
+
+-- ---- one more record that passed the check
+
+module _ (image : List ℕ) (past : List (List ℕ)) (b : Bank) (rec : List ℕ) (v : Kept image past b) (ok : checkOf b rec ≡ Accepted) where
   abbrev digital : ℕ
   digital = b .settings .digital
+
+  abbrev alarm : ℕ → Alarm
+  alarm p = alarmAt (b .settings) p
+
+  -- the record as the alarm at a place sees it
+  abbrev seen : ℕ → Scan
+  seen p = scanAt (b .settings) p rec
 
   most : alarmsOf b ≤ 24
   most = omega (arith, v .sound .digital-most, v .sound .analog-most)
 
+  pub digital-of : (p : ℕ) → p < digital → (severity : ℕ) × (alarm p .kind ≡ Digital severity)
+  digital-of p h = digital-kind (alarm p .kind) (alarm p .flags) (alarm p .duration) (v .sound .digital-sound p h)
+
+  pub analog-of : (p : ℕ) → digital ≤ p → p < alarmsOf b → (g : Limits) × (severities : Severities) × (period : ℕ) × (alarm p .kind ≡ Analog g severities period)
+  analog-of p l h = analog-kind (alarm p .kind) (alarm p .flags) (alarm p .duration) (v .sound .analog-sound p l h)
+
+  parts : (p : ℕ) → p < alarmsOf b → PartRead rec digital p
+  parts p h = all-read rec digital (alarmsOf b) 0 8 (omega arith) (accepted-says digital (b .settings .analog) (b .time) rec ok .2) p (omega arith) (omega arith)
+
+  stepped-is : (p : ℕ) → p < alarmsOf b → stepAt rec digital (b .settings .alarms) (b .states) (timeOf rec) p ≡ stepOf (alarm p) (stateAt b p) (seen p .reading) (seen p .word) (seen p .time)
+  unfolding stepPart
+  stepped-is p h = ap (λ (e : Entry). stepEntry e (alarm p) (stateAt b p) (timeOf rec)) (parts p h)
+
+  pub digital-stepped : (p : ℕ) → p < digital → stepAt rec digital (b .settings .alarms) (b .states) (timeOf rec) p ≡ digitalStep (alarm p) (stateAt b p) (seen p .reading) (seen p .word) (seen p .time)
+  unfolding stepKind
+  digital-stepped p h =
+      stepped-is p (omega arith) ∙ ap (λ (q : Kind). stepKind q (alarm p) (stateAt b p) (seen p .reading) (seen p .word) (seen p .time)) (digital-of p h .1)
+
+  pub analog-stepped : (p : ℕ) → digital ≤ p → p < alarmsOf b
+      → stepAt rec digital (b .settings .alarms) (b .states) (timeOf rec) p ≡ analogStep (alarm p) (stateAt b p) (seen p .reading) (seen p .word) (seen p .time)
+  unfolding stepKind
+  analog-stepped p l h =
+      stepped-is p h ∙ ap (λ (q : Kind). stepKind q (alarm p) (stateAt b p) (seen p .reading) (seen p .word) (seen p .time)) (analog-of p l h .3)
+
   -- the state after the record, and the event word, of the alarm at a place
-  state-after : (p : ℕ) → p < alarmsOf b → getD (planFor b rec .states) p freshState ≡ stepAt rec digital (b .settings .alarms) (b .states) (timeOf rec) p .state
+  pub state-after : (p : ℕ) → p < alarmsOf b → getD (planFor b rec .states) p freshState ≡ stepAt rec digital (b .settings .alarms) (b .states) (timeOf rec) p .state
   unfolding planOf
   state-after p h =
       placed-below (λ q. stepAt rec digital (b .settings .alarms) (b .states) (timeOf rec) q .state) (alarmsOf b) p (b .states) freshState h (omega (arith, most, v .states-long))
 
-  word-after : (p : ℕ) → p < alarmsOf b → getD (planFor b rec .events) p 0 ≡ stepAt rec digital (b .settings .alarms) (b .states) (timeOf rec) p .events
+  pub word-after : (p : ℕ) → p < alarmsOf b → getD (planFor b rec .events) p 0 ≡ stepAt rec digital (b .settings .alarms) (b .states) (timeOf rec) p .events
   word-after p h = word-at rec digital (b .settings .alarms) (b .states) (timeOf rec) (alarmsOf b) p most h
 
   -- its words after the record
@@ -151,15 +189,12 @@ module _ (image : List ℕ) (past : List (List ℕ)) (b : Bank) (rec : List ℕ)
 
   marked-after : (p c : ℕ) → p < alarmsOf b → c < 6 → {r : Stepped} → stepAt rec digital (b .settings .alarms) (b .states) (timeOf rec) p ≡ r
       → marksAt marksNext (25 * p + 1 + 4 * c)
-      ≡ marksAfter (bit (r .events) 4) (bit (r .events) (6 + 3 * c)) (bit (r .events) (7 + 3 * c)) (bit (r .events) (8 + 3 * c))
-      (requiredOf (alarmAt b p .kind) (alarmAt b p .flags)) (startAt (r .state) c) (timeOf rec) (marksAt (b .marks) (25 * p + 1 + 4 * c))
+      ≡ marksAfter (turnAt (ackRequired (alarm p .kind) (alarm p .flags)) (r .state) (r .events) (timeOf rec) c) (marksAt (b .marks) (25 * p + 1 + 4 * c))
   marked-after p c h l {r} e =
       let w = word-after p h ∙ ap (λ (t : Stepped). t .events) e in
       let s = state-after p h ∙ ap (λ (t : Stepped). t .state) e in
       mark-read (b .settings .alarms) (planFor b rec .states) (planFor b rec .events) (timeOf rec) (alarmsOf b) p c (b .marks) h l (omega (arith, most, v .marks-long))
-      ∙ (λ i.
-      marksAfter (bit (w i) 4) (bit (w i) (6 + 3 * c)) (bit (w i) (7 + 3 * c)) (bit (w i) (8 + 3 * c))
-      (requiredOf (alarmAt b p .kind) (alarmAt b p .flags)) (startAt (s i) c) (timeOf rec) (marksAt (b .marks) (25 * p + 1 + 4 * c)))
+      ∙ (λ i. marksAfter (turnAt (ackRequired (alarm p .kind) (alarm p .flags)) (s i) (w i) (timeOf rec) c) (marksAt (b .marks) (25 * p + 1 + 4 * c)))
 
   stamped-after : (p : ℕ) → p < alarmsOf b → {r : Stepped} → stepAt rec digital (b .settings .alarms) (b .states) (timeOf rec) p ≡ r
       → getD marksNext (25 * p) 0 ≡ timeStampAfter (bit (r .events) 4) (timeOf rec) (getD (b .marks) (25 * p) 0)
@@ -167,67 +202,28 @@ module _ (image : List ℕ) (past : List (List ℕ)) (b : Bank) (rec : List ℕ)
       reset-read (b .settings .alarms) (planFor b rec .states) (planFor b rec .events) (timeOf rec) (alarmsOf b) p (b .marks) h (omega (arith, most, v .marks-long))
       ∙ ap (λ (w : ℕ). timeStampAfter (bit w 4) (timeOf rec) (getD (b .marks) (25 * p) 0)) (word-after p h ∙ ap (λ (t : Stepped). t .events) e)
 
-  -- a digital alarm is stepped with the bit that stands in the record
-  abbrev digitalX : ℕ → Scan Bool
-  digitalX p = digitalScan digital p rec
-
-  abbrev digitalR : ℕ → Stepped
-  digitalR p = digitalStep (alarmAt b p .flags) (alarmAt b p .duration) (stateAt b p) (digitalX p .reading) (digitalX p .word) (digitalX p .time)
-
-  digital-stepped : (p : ℕ) → p < digital → {severity : ℕ} → alarmAt b p .kind ≡ Digital severity
-      → stepAt rec digital (b .settings .alarms) (b .states) (timeOf rec) p ≡ digitalR p
-  unfolding stepPart stepKind
-  digital-stepped p h k = rw (lt-ltb p digital h, k)
-
   digital-next : (p : ℕ) → p < digital
-      → DigitalView (alarmAt b p .flags) (alarmAt b p .duration) (getD (planFor b rec .states) p freshState) marksNext (25 * p) (map (digitalScan digital p) (rec ∷ past))
+      → DigitalView (alarm p) (getD (planFor b rec .states) p freshState) marksNext (25 * p) (scansAt (b .settings) p (rec ∷ past))
   digital-next p h =
-      let k = digital-kind (alarmAt b p .kind) (alarmAt b p .flags) (alarmAt b p .duration) (v .sound .digital-sound p h) in
-      let e = digital-stepped p h (k .1) in
+      let e = digital-stepped p h in
       let l : p < alarmsOf b = omega arith in
       let first : 25 * p + 1 + 4 * 0 ≡ 25 * p + 1 = omega arith in
-      subst (λ (s : State). DigitalView (alarmAt b p .flags) (alarmAt b p .duration) s marksNext (25 * p) (map (digitalScan digital p) (rec ∷ past)))
+      let r = digitalStep (alarm p) (stateAt b p) (seen p .reading) (seen p .word) (seen p .time) in
+      subst (λ (s : State). DigitalView (alarm p) s marksNext (25 * p) (scansAt (b .settings) p (rec ∷ past)))
       (sym (state-after p l ∙ ap (λ (t : Stepped). t .state) e))
-      (digital-view (alarmAt b p .flags) (alarmAt b p .duration) (stateAt b p) (digitalX p) (b .marks) marksNext (25 * p) (map (digitalScan digital p) past) (v .digital p h)
-      (rw first at (marked-after p 0 l (omega arith) e)
-      ∙ ap (λ (q : Kind).
-      marksAfter (bit (digitalR p .events) 4) (bit (digitalR p .events) 6) (bit (digitalR p .events) 7) (bit (digitalR p .events) 8) (requiredOf q (alarmAt b p .flags))
-      (startAt (digitalR p .state) 0) (timeOf rec) (marksAt (b .marks) (25 * p + 1))) (k .1))
+      (digital-view (alarm p) (stateAt b p) (seen p) (b .marks) marksNext (25 * p) (scansAt (b .settings) p past) (v .digital p h)
+      (rw (first, ← digital-required (alarm p) (digital-of p h .1)) at (marked-after p 0 l (omega arith) e))
       (stamped-after p l e))
 
-  -- an analog alarm with the REAL
-  abbrev analogX : ℕ → Scan Float
-  analogX p = analogScan digital p rec
-
-  module _ (p : ℕ) (low : digital ≤ p) (high : p < alarmsOf b) (g : Limits) (severities : Severities) (period : ℕ) (k : alarmAt b p .kind ≡ Analog g severities period) where
-    abbrev analogR : Stepped
-    analogR = analogStep (alarmAt b p .flags) (alarmAt b p .duration) g period (stateAt b p) (analogX p .reading) (analogX p .word) (analogX p .time)
-
-    analog-stepped : stepAt rec digital (b .settings .alarms) (b .states) (timeOf rec) p ≡ analogR
-    unfolding stepPart stepKind
-    analog-stepped = rw (le-ltb p digital low, k)
-
-    place-six : (c : Six) → place c < 6
-    place-six HH = omega arith
-    place-six H = omega arith
-    place-six L = omega arith
-    place-six LL = omega arith
-    place-six ROCPos = omega arith
-    place-six ROCNeg = omega arith
-
-    analog-next : AnalogView (alarmAt b p .flags) (alarmAt b p .duration) g period (getD (planFor b rec .states) p freshState) marksNext (25 * p)
-        (map (analogScan digital p) (rec ∷ past))
-    analog-next =
-        subst (λ (s : State). AnalogView (alarmAt b p .flags) (alarmAt b p .duration) g period s marksNext (25 * p) (map (analogScan digital p) (rec ∷ past)))
-        (sym (state-after p high ∙ ap (λ (t : Stepped). t .state) analog-stepped))
-        (analog-view (alarmAt b p .flags) (alarmAt b p .duration) g period (stateAt b p) (analogX p) (b .marks) marksNext (25 * p) (map (analogScan digital p) past)
-        (v .analog p low high g severities period k)
-        (λ c.
-        marked-after p (place c) high (place-six c) analog-stepped
-        ∙ ap (λ (q : Kind).
-        marksAfter (bit (analogR .events) 4) (bit (analogR .events) (6 + 3 * place c)) (bit (analogR .events) (7 + 3 * place c)) (bit (analogR .events) (8 + 3 * place c))
-        (requiredOf q (alarmAt b p .flags)) (startAt (analogR .state) (place c)) (timeOf rec) (marksAt (b .marks) (25 * p + 1 + 4 * place c))) k)
-        (stamped-after p high analog-stepped))
+  analog-next : (p : ℕ) → digital ≤ p → p < alarmsOf b
+      → AnalogView (alarm p) (getD (planFor b rec .states) p freshState) marksNext (25 * p) (scansAt (b .settings) p (rec ∷ past))
+  analog-next p l h =
+      let e = analog-stepped p l h in
+      subst (λ (s : State). AnalogView (alarm p) s marksNext (25 * p) (scansAt (b .settings) p (rec ∷ past)))
+      (sym (state-after p h ∙ ap (λ (t : Stepped). t .state) e))
+      (analog-view (alarm p) (stateAt b p) (seen p) (b .marks) marksNext (25 * p) (scansAt (b .settings) p past) (v .analog p l h)
+      (λ c. rw (← analog-required (alarm p) (analog-of p l h .3)) at (marked-after p (place c) h (place-six c) e))
+      (stamped-after p h e))
 
   pub next-kept : Kept image (rec ∷ past) (bankAfter b rec)
   unfolding planOf

@@ -1,48 +1,45 @@
--- How long an event buffer must be: 12 exactly where it is shorter than the events, and 3,840 bytes always suffice. Assumes nothing.
-use mathlib.Core.Path.{_≡_, refl, ap, _∙_}
+-- How long an event buffer must be: 3,840 bytes always suffice. Assumes nothing.
+use mathlib.Core.Path.{_≡_, refl, sym, ap, subst, _∙_}
 use mathlib.Core.Bool.{Bool, true, false}
 use mathlib.Core.List.{List, [], _∷_}
 use Prim.Native.Nat.{ℕ, zero, suc, _+_, _-_, _*_, _/_, _%_, _≤_, _<_, min}
 use native.Mathlib.Omega.{arith}
-use borrow.Author.Tests.{lt-ltb, le-ltb, ltb-true, ltb-false}
+use borrow.Author.Tests.{le-ltb, ltb-true, ltb-false}
 use native.Mathlib.Nat.{le-refl}
 use lib.Dec.{ltb}
 use lib.Count.{ones, ones-step}
 use lib.ListN.{length, getD}
 use Rattle.wire.specs.Internal.Words.{wordOf}
-use Rattle.settings.specs.Refusals.{refusal}
 use Rattle.settings.specs.declared.reply.Reply.the-variants.{Accepted}
 use Rattle.settings.specs.declared.types.Kind.{Kind}
 use Rattle.settings.specs.declared.types.Kind.the-variants.{Digital, Analog}
 use Rattle.alarm.specs.Internal.Held.{lookDigital, lookAnalog}
 use Rattle.alarm.specs.Internal.Digital.{digitalEvents, digitalStep}
 use Rattle.alarm.specs.Internal.Analog.{analogEvents, analogStep}
+use Rattle.settings.specs.declared.types.Alarm.{Alarm}
 use Rattle.alarm.specs.Internal.Step.{stepKind}
 use Rattle.alarm.specs.declared.state.State.{State}
-use Rattle.alarm.specs.declared.step.Reading.{Reading}
-use Rattle.alarm.specs.declared.step.Reading.the-variants.{Digital as Bit, Level}
+use Rattle.settings.specs.declared.types.Reading.{Reading}
 use Rattle.alarm.proofs.Laws.{number, digital-most, analog-most}
-use Rattle.scan_record.specs.Part.{timeOf}
-use Rattle.steps.specs.Internal.Plan.{stepPart, stepAt, countOf}
+use Rattle.scan_record.specs.Part.{timeOf, formAt, offsetOf}
+use Rattle.scan_record.specs.Entry.{entryAt}
+use Rattle.scan_record.specs.declared.entry.Entry.{Entry}
+use Rattle.scan_record.specs.declared.entry.Entry.the-variants.{Read, Refused}
+use Rattle.steps.specs.Internal.Plan.{stepEntry, stepPart, stepAt, countOf}
 use Rattle.steps.proofs.Logs.{up-to-count}
 use Rattle.steps.proofs.Counts.{word-at, word-small}
-use Rattle.bank.specs.Internal.Scan.{checkOf, alarmsOf, planFor, eventsIn, bankAfter, refusedScan, checkedScan, scanOf}
+use Rattle.bank.specs.Internal.Scan.{checkOf, alarmsOf, planFor, eventsIn, checkedScan, scanOf}
 use Rattle.bank.specs.declared.bank.Bank.{Bank}
-use Rattle.bank.specs.declared.parts.Answer.the-variants.{Events}
+use Rattle.bank.specs.declared.scan.Scanned.{Scanned}
 use Rattle.bank.proofs.Scans.{accepted-scan}
-use Rattle.bank_history.proofs.Banks.{Kept, alarmAt, digital-kind}
+use Rattle.bank_history.specs.Answers.{alarmAt, isAccepted}
+use Rattle.bank_history.proofs.Banks.{Kept, stateAt, digital-kind}
 
--- ---- 12 exactly where the buffer is shorter than the events, 16 bytes each
-
-module _ (b : Bank) (rec : List ℕ) (room : ℕ) (ok : checkOf b rec ≡ Accepted) where
-  pub twelve : room < 16 * length (eventsIn b rec) → scanOf b rec room ≡ refusedScan b (refusal 12 0)
-  unfolding checkedScan
-  twelve h = accepted-scan b rec room ok ∙ rw (lt-ltb room (16 * length (eventsIn b rec)) h)
-
-  pub not-twelve : 16 * length (eventsIn b rec) ≤ room
-      → scanOf b rec room ≡ record { bank = bankAfter b rec; answer = Events (length (eventsIn b rec)) }
-  unfolding checkedScan
-  not-twelve h = accepted-scan b rec room ok ∙ rw (le-ltb room (16 * length (eventsIn b rec)) h)
+-- a record that passed the check is accepted where its events have room
+pub accepted-with-room : (b : Bank) (rec : List ℕ) (room : ℕ) → checkOf b rec ≡ Accepted → 16 * length (eventsIn b rec) ≤ room → isAccepted (scanOf b rec room .answer) ≡ true
+unfolding checkedScan
+accepted-with-room b rec room ok h =
+    ap (λ (x : Scanned). isAccepted (x .answer)) (accepted-scan b rec room ok) ∙ rw (le-ltb room (16 * length (eventsIn b rec)) h) refl
 
 -- ---- 3,840 bytes
 
@@ -64,20 +61,26 @@ unfolding ones
 no-ones = refl
 
 -- an alarm of any kind has at most 15 events, a digital one at most 5
-step-most : (k : Kind) (flags duration : ℕ) (s : State) (x : Reading) (word time : ℕ) → ones (stepKind k flags duration s x word time .events) ≤ 15
+step-most : (k : Kind) (a : Alarm) (s : State) (x : Reading) (word time : ℕ) → ones (stepKind k a s x word time .events) ≤ 15
 unfolding stepKind digitalStep analogStep
-step-most (Digital severity) flags duration s (Bit input) word time =
-    omega (arith, word-ones (digitalEvents flags duration input word time (lookDigital s)), digital-most flags duration input word time (lookDigital s))
-step-most (Digital severity) flags duration s (Level x) word time = omega (arith, no-ones)
-step-most (Analog g severities period) flags duration s (Bit input) word time = omega (arith, no-ones)
-step-most (Analog g severities period) flags duration s (Level x) word time =
-    omega (arith, word-ones (analogEvents flags duration g period x word time (lookAnalog s)), analog-most flags duration g period x word time (lookAnalog s))
+step-most (Digital severity) a s x word time =
+    omega (arith, word-ones (digitalEvents a x word time (lookDigital s)), digital-most a x word time (lookDigital s))
+step-most (Analog g severities period) a s x word time =
+    omega (arith, word-ones (analogEvents a x word time (lookAnalog s)), analog-most a x word time (lookAnalog s))
 
-digital-step-most : (severity flags duration : ℕ) (s : State) (x : Reading) (word time : ℕ) → ones (stepKind (Digital severity) flags duration s x word time .events) ≤ 5
+digital-step-most : (severity : ℕ) (a : Alarm) (s : State) (x : Reading) (word time : ℕ) → ones (stepKind (Digital severity) a s x word time .events) ≤ 5
 unfolding stepKind digitalStep
-digital-step-most severity flags duration s (Bit input) word time =
-    omega (arith, word-ones (digitalEvents flags duration input word time (lookDigital s)), digital-most flags duration input word time (lookDigital s))
-digital-step-most severity flags duration s (Level x) word time = omega (arith, no-ones)
+digital-step-most severity a s x word time =
+    omega (arith, word-ones (digitalEvents a x word time (lookDigital s)), digital-most a x word time (lookDigital s))
+
+entry-most : (e : Entry) (a : Alarm) (s : State) (time : ℕ) → ones (stepEntry e a s time .events) ≤ 15
+entry-most (Read x word next) a s time = step-most (a .kind) a s x word time
+entry-most (Refused r) a s time = omega (arith, no-ones)
+
+digital-entry-most : (e : Entry) (a : Alarm) (s : State) (time : ℕ) {severity : ℕ} → a .kind ≡ Digital severity → ones (stepEntry e a s time .events) ≤ 5
+digital-entry-most (Read x word next) a s time {severity} k =
+    subst (λ (q : Kind). ones (stepKind q a s x word time .events) ≤ 5) (sym k) (digital-step-most severity a s x word time)
+digital-entry-most (Refused r) a s time k = omega (arith, no-ones)
 
 module _ (image : List ℕ) (past : List (List ℕ)) (b : Bank) (rec : List ℕ) (v : Kept image past b) where
   abbrev digital : ℕ
@@ -89,16 +92,21 @@ module _ (image : List ℕ) (past : List (List ℕ)) (b : Bank) (rec : List ℕ)
   word-of : (p : ℕ) → p < alarmsOf b → getD (planFor b rec .events) p 0 ≡ stepAt rec digital (b .settings .alarms) (b .states) (timeOf rec) p .events
   word-of p h = word-at rec digital (b .settings .alarms) (b .states) (timeOf rec) (alarmsOf b) p most h
 
+  -- the part of the record for the alarm at a place
+  abbrev entry : ℕ → Entry
+  entry p = entryAt (formAt digital p) rec (offsetOf digital p) (p + 1)
+
   any-most : (p : ℕ) → p < alarmsOf b → ones (getD (planFor b rec .events) p 0) ≤ 15
   unfolding stepPart
-  any-most p h = rw (word-of p h) (step-most (alarmAt b p .kind) _ _ _ _ _ _)
+  any-most p h = rw (word-of p h) (entry-most (entry p) (alarmAt (b .settings) p) (stateAt b p) (timeOf rec))
 
   low-most : (p : ℕ) → p < digital → ones (getD (planFor b rec .events) p 0) ≤ 5
   unfolding stepPart
   low-most p h =
-      let k = digital-kind (alarmAt b p .kind) (alarmAt b p .flags) (alarmAt b p .duration) (v .sound .digital-sound p h) in
+      let a = alarmAt (b .settings) p in
+      let k = digital-kind (a .kind) (a .flags) (a .duration) (v .sound .digital-sound p h) in
       let l : p < alarmsOf b = omega arith in
-      rw (word-of p l, k .1) (digital-step-most (k .0) _ _ _ _ _ _)
+      rw (word-of p l) (digital-entry-most (entry p) a (stateAt b p) (timeOf rec) (k .1))
 
   -- the first n alarms
   count-most : (n : ℕ) → n ≤ alarmsOf b → countOf (planFor b rec .events) n ≤ 5 * min n digital + 15 * (n - digital)

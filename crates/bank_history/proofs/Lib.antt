@@ -1,7 +1,7 @@
-pub mod Views
+mod Views
 pub mod Banks
+mod Logs
 pub mod Lists
-pub mod Reported
 pub mod Enough
-pub mod Demand
-pub mod Examples
+mod Reported
+pub mod Statements

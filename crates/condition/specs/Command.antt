@@ -2,7 +2,9 @@
 -- act in every scan that sets them.
 use Prim.Native.Nat.{ℕ, _+_}
 use mathlib.Core.Bool.{Bool, not, _&&_, _||_}
+use lib.Dec.{ltb}
 use Rattle.wire.specs.Bits.{bit}
+use Rattle.settings.specs.Condition.{Condition, numberOf}
 
 -- set, and clear in the previous word
 abbrev pub rises : ℕ → ℕ → ℕ → Bool
@@ -36,9 +38,10 @@ resets word previous = rises word previous 1 || bit word 8
 abbrev pub acksAll : ℕ → ℕ → Bool
 acksAll word previous = rises word previous 0 || bit word 7
 
--- that, or the own program or operator acknowledgement of the condition that stands at k among HH, H, L, LL, ROCPos, ROCNeg
-abbrev pub acksOne : ℕ → ℕ → ℕ → Bool
-acksOne word previous k = acksAll word previous || rises word previous (13 + k) || bit word (19 + k)
+-- the word acknowledges the condition: all, or its own program bit, 13 for HH to 18 for ROCNeg, or operator bit, 19 to 24
+unfoldable pub acks : ℕ → ℕ → Condition → Bool
+acks word previous c =
+    acksAll word previous || ltb 0 (numberOf c) && rises word previous (12 + numberOf c) || ltb 0 (numberOf c) && bit word (18 + numberOf c)
 
 -- InFault
 abbrev pub faults : ℕ → Bool

@@ -36,9 +36,10 @@ facts =
     record {
       enabled = λ s past. true;
       met = λ c s past. s .met;
-      frees = λ c s past. true;
+      cleared = λ c s past. not (s .met);
       lasted = λ c s past. true;
       beside = λ c before. false;
+      rate = λ c. false;
       ack = λ c s past. s .ack && not (holds (λ s past. s .ack) past);
       reset = λ s past. s .reset;
       required = true;
@@ -49,7 +50,7 @@ scan met ack reset = record { met = met; ack = ack; reset = reset }
 
 -- what the step keeps is this, and the descriptions say the same
 record Agrees (scans : List Scan) (k : Kept) : Type 0 where
-  step : kept facts scans tt ≡ k
+  step : kept facts (λ c s past. true) scans tt ≡ k
   alarm : inAlarm facts scans tt ≡ k .alarm
   unacked : unacknowledged facts scans tt ≡ k .unacked
   count : count facts scans tt ≡ k .count

@@ -5,13 +5,11 @@ use mathlib.Core.Logic.{_⊎_, inl, inr}
 use mathlib.Core.List.{List, [], _∷_, _++_, append-assoc, append-nil}
 use mathlib.Core.Bool.{Bool, true, false, _&&_, _||_, cond, or-true}
 use native.Mathlib.Omega.{arith}
-use Rattle.history.specs.Past.{Fact, holds, since, Since, countFrom, many, None, FromLast, OfAll, rowStart, RowFrom}
+use Rattle.history.specs.Past.{Fact, holds, Each, since, Since, countFrom, many, FromLast, OfAll, rowStart}
+use Rattle.history.specs.Internal.Row.{RowFrom}
 
 module _ {S : Type 0} where
-  -- ---- each of `scans` has the value v of q, where `earlier` stands before them: `kept` of the words is this at true, `None` at false
-
-  abbrev Each : Fact S → Bool → List S → List S → Type 0
-  Each q v scans earlier = (after : List S) (y : S) (before : List S) → scans ≡ after ++ (y ∷ before) → q y (before ++ earlier) ≡ v
+  -- ---- each of some scans has a value
 
   each-nil : (q : Fact S) (v : Bool) (earlier : List S) → Each q v [] earlier
   each-nil q v earlier [] y before e = let z : _≡_ {A = ℕ} 0 1 = cc in absurd (omega arith)
@@ -61,7 +59,7 @@ module _ {S : Type 0} where
 
   -- ---- counts
 
-  split-count : (r p : Fact S) (later : List S) (scan : S) (earlier : List S) → r scan earlier ≡ true → None r later (scan ∷ earlier)
+  split-count : (r p : Fact S) (later : List S) (scan : S) (earlier : List S) → r scan earlier ≡ true → Each r false later (scan ∷ earlier)
       → countFrom r p (later ++ (scan ∷ earlier)) ≡ many p (later ++ (scan ∷ [])) earlier
   unfolding countFrom many
   split-count r p [] scan earlier h k = rw h
@@ -70,7 +68,7 @@ module _ {S : Type 0} where
       (ap₂ (λ (l : List S) (n : ℕ). cond (p y l) 1 0 + n) (sym (append-assoc later (scan ∷ []) earlier))
       (split-count r p later scan earlier h (each-tail r false y later (scan ∷ earlier) k)))
 
-  all-count : (r p : Fact S) (scans : List S) → None r scans [] → countFrom r p scans ≡ many p scans []
+  all-count : (r p : Fact S) (scans : List S) → Each r false scans [] → countFrom r p scans ≡ many p scans []
   unfolding countFrom many
   all-count r p [] k = refl
   all-count r p (s ∷ past) k =
@@ -87,7 +85,7 @@ module _ {S : Type 0} where
   count-words r p [] = inr (record { none = each-nil r false []; number = all-count r p [] (each-nil r false []) })
   count-words r p (s ∷ past) = go (r s past) refl (count-words r p past)
     where
-      from : (later : List S) (scan : S) (earlier : List S) → s ∷ past ≡ later ++ (scan ∷ earlier) → r scan earlier ≡ true → None r later (scan ∷ earlier)
+      from : (later : List S) (scan : S) (earlier : List S) → s ∷ past ≡ later ++ (scan ∷ earlier) → r scan earlier ≡ true → Each r false later (scan ∷ earlier)
           → FromLast r p (s ∷ past) (countFrom r p (s ∷ past))
       from later scan earlier e h k =
           record {

@@ -1,4 +1,4 @@
--- Demand 3's three descriptions, for the conditions C of one alarm, from facts of its scans alone.
+-- The terms of demand 3 for the conditions C of one alarm, from facts of its scans alone.
 use Prim.Native.Nat.{ℕ, min}
 use mathlib.Core.Path.{_≡_}
 use mathlib.Core.List.{List, [], _∷_}
@@ -9,33 +9,29 @@ use Rattle.history.specs.Past.{Fact, since, Since, countFrom}
 pub record Facts (S C : Type 0) : Type 1 where
   -- the alarm is enabled in the scan
   pub enabled : Fact S
-  -- the condition is met
   pub met : C → Fact S
-  -- the condition would be cleared by the scan if it is not met
-  pub frees : C → Fact S
-  -- its run has lasted MinDuration, or it is a rate
+  pub cleared : C → Fact S
+  -- its run has lasted at least MinDuration
   pub lasted : C → Fact S
-  -- of what was in alarm after the scan before: some condition of its side, for a level
+  -- it is a level, and of what was in alarm after the scan before, some condition of its side
   pub beside : C → (C → Bool) → Bool
-  -- the scan acknowledges the condition
+  -- it is a rate
+  pub rate : C → Bool
+  -- the scan acknowledges it
   pub ack : C → Fact S
   -- the scan resets the counts
   pub reset : Fact S
-  -- acknowledgement is required
+  -- AckRequired
   pub required : Bool
 
 module _ {S C : Type 0} (f : Facts S C) where
-  -- cleared: not met, and freed
-  abbrev pub cleared : C → Fact S
-  cleared c s past = not (f .met c s past) && f .frees c s past
-
-  -- due, given which conditions were in alarm after the scan before
+  -- due, given which conditions were in alarm after the scan before: enabled and met, and one of three
   abbrev pub dueGiven : (C → Bool) → C → Fact S
-  dueGiven before c s past = f .enabled s past && f .met c s past && (f .lasted c s past || f .beside c before)
+  dueGiven before c s past = f .enabled s past && f .met c s past && (f .lasted c s past || (f .beside c before || f .rate c))
 
   -- neither cleared nor left disabled
   abbrev pub stays : C → Fact S
-  stays c s past = f .enabled s past && not (cleared c s past)
+  stays c s past = f .enabled s past && not (f .cleared c s past)
 
   -- the first description, computed: some scan had it due, and no later scan cleared it or left its alarm disabled
   unfoldable pub inAlarm : List S → C → Bool
@@ -62,8 +58,15 @@ module _ {S C : Type 0} (f : Facts S C) where
   abbrev pub count : List S → C → ℕ
   count scans c = min 2147483647 (countFrom (f .reset) (activation c) scans)
 
-  -- ---- the descriptions in words
+  -- a scan that acknowledges the condition, which was unacknowledged
+  abbrev pub answer : C → Fact S
+  answer c s past = f .enabled s past && f .ack c s past && unacknowledged past c
 
+  -- a scan that clears it, which was in alarm
+  abbrev pub return : C → Fact S
+  return c s past = f .enabled s past && inAlarm past c && f .cleared c s past
+
+  -- the first two descriptions in words
   abbrev pub InAlarm : List S → C → Type 0
   InAlarm scans c = Since (due c) (stays c) scans
 

@@ -14,8 +14,11 @@ module _ {S : Type 0} where
   holds p [] = false
   holds p (s ∷ past) = p s past
 
-  -- ---- some scan had p, and every later one q
+  -- each of `scans`, where `earlier` stands before them, has the value v of p
+  abbrev pub Each : Fact S → Bool → List S → List S → Type 0
+  Each p v scans earlier = (after : List S) (y : S) (before : List S) → scans ≡ after ++ (y ∷ before) → p y (before ++ earlier) ≡ v
 
+  -- some scan had p, and every later one q
   unfoldable pub since : Fact S → Fact S → List S → Bool
   since p q [] = false
   since p q (s ∷ past) = p s past || q s past && since p q past
@@ -27,10 +30,9 @@ module _ {S : Type 0} where
     pub earlier : List S
     pub split : scans ≡ later ++ (scan ∷ earlier)
     pub had : p scan earlier ≡ true
-    pub kept : (after : List S) (y : S) (before : List S) → later ≡ after ++ (y ∷ before) → q y (before ++ (scan ∷ earlier)) ≡ true
+    pub kept : Each q true later (scan ∷ earlier)
 
-  -- ---- how many scans had p, from the last that had r on and that one included, or of all where none had r
-
+  -- how many scans had p, from the last that had r on and that one included, or of all where none had r
   unfoldable pub countFrom : Fact S → Fact S → List S → ℕ
   countFrom r p [] = 0
   countFrom r p (s ∷ past) = cond (p s past) 1 0 + cond (r s past) 0 (countFrom r p past)
@@ -40,10 +42,6 @@ module _ {S : Type 0} where
   many p [] earlier = 0
   many p (s ∷ scans) earlier = cond (p s (scans ++ earlier)) 1 0 + many p scans earlier
 
-  -- none of `scans` had r, where `earlier` stands before them
-  abbrev pub None : Fact S → List S → List S → Type 0
-  None r scans earlier = (after : List S) (y : S) (before : List S) → scans ≡ after ++ (y ∷ before) → r y (before ++ earlier) ≡ false
-
   -- in words: n scans had p from the last with r on
   pub record FromLast (r p : Fact S) (scans : List S) (n : ℕ) : Type 0 where
     pub later : List S
@@ -51,27 +49,20 @@ module _ {S : Type 0} where
     pub earlier : List S
     pub split : scans ≡ later ++ (scan ∷ earlier)
     pub last : r scan earlier ≡ true
-    pub none : None r later (scan ∷ earlier)
+    pub none : Each r false later (scan ∷ earlier)
     pub number : n ≡ many p (later ++ (scan ∷ [])) earlier
 
   -- or none had r and n of all had p
   pub record OfAll (r p : Fact S) (scans : List S) (n : ℕ) : Type 0 where
-    pub none : None r scans []
+    pub none : Each r false scans []
     pub number : n ≡ many p scans []
 
-  -- ---- the time at which the unbroken row of scans with p began that ends with the last scan
-
+  -- the time at which the unbroken row of scans with p began that ends with the last scan
   unfoldable pub rowStart : (S → ℕ) → Fact S → List S → ℕ
   rowStart time p [] = 0
   rowStart time p (s ∷ past) = cond (holds p past) (rowStart time p past) (time s)
 
-  -- in words: the last scans, from one at t on, had p, and the scan before that one, if there is one, had not
-  pub record RowFrom (time : S → ℕ) (p : Fact S) (scans : List S) (t : ℕ) : Type 0 where
-    pub later : List S
-    pub first : S
-    pub earlier : List S
-    pub split : scans ≡ later ++ (first ∷ earlier)
-    pub begins : holds p earlier ≡ false
-    pub had : p first earlier ≡ true
-    pub kept : (after : List S) (y : S) (before : List S) → later ≡ after ++ (y ∷ before) → p y (before ++ (first ∷ earlier)) ≡ true
-    pub start : t ≡ time first
+  -- of the last scan that had p, what t gives; 0 where none had p
+  unfoldable pub latest : Fact S → (S → List S → ℕ) → List S → ℕ
+  latest p t [] = 0
+  latest p t (s ∷ past) = cond (p s past) (t s past) (latest p t past)

@@ -17,7 +17,8 @@ use Rattle.wire.specs.Real.{bounded, realAt}
 use Rattle.wire.proofs.Laws.{and-true, part-suc, wordsAt, words-back, number-lt}
 use Rattle.wire.proofs.Reals.{pattern-back}
 use Rattle.settings.specs.Refusals.{refusal}
-use Rattle.settings.specs.Rules.{onHH, onH, onL, onLL, nonNegative, limitsInRange, durationInRange, periodInRange, inRange, ordered, rising, lowOf, highOf, banded, apart}
+use Rattle.settings.specs.Alarm.{onHH, onH, onL, onLL}
+use Rattle.settings.specs.Rules.{nonNegative, limitsInRange, durationInRange, inRange, ordered, rising, lowOf, highOf, banded, apart}
 use Rattle.reader.specs.Record.{digitalAlarm, digitalRecord, severitiesAt, limitsAt, analogAlarm, analogRecord, sizeOf, recordAt}
 use Rattle.image.specs.Internal.Write.{severityWords, limitWords, digitalBytes, analogBytes, kindBytes, recordBytes}
 use Rattle.settings.specs.Internal.Sound.{Bounded, Rising, Banded, Sound}
@@ -154,7 +155,7 @@ module _ (image : List ℕ) (b : T (areBytes image)) (at : ℕ) where
       let n = read-true numbers third (refusal 4 at) (f .1) in
       let l = read-true (apart (getD image at 0) g) (Recorded (analogAlarm image at) (at + 61)) (refusal 5 at) (n .1) in
       let n₁ = and-true _ (durationInRange (number image (at + 57) 4)) (n .0) in
-      let n₀ = and-true (limitsInRange g) (periodInRange (number image (at + 53) 4)) (n₁ .0) in
+      let n₀ = and-true (limitsInRange g) (leb (number image (at + 53) 4) 3600000) (n₁ .0) in
       let r = in-range g (n₀ .0) in
       let o = and-true (rising (getD image at 0) g) (banded (getD image at 0) g) (l .0) in
       let a≡ : analogAlarm image at ≡ a = cc in

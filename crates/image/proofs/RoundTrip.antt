@@ -264,7 +264,7 @@ module _ (image : List ℕ) (b : T (areBytes image)) (e : readOf image .reply �
   pub longest : length image ≤ 842
   longest = let s = accepted image b e in omega (arith, s .size, s .digital-most, s .analog-most)
 
-  room-is : (n : ℕ) → hasRoom (settings .digital) (settings .analog) n ≡ leb (length image) n
+  pub room-is : (n : ℕ) → hasRoom (settings .digital) (settings .analog) n ≡ leb (length image) n
   unfolding hasRoom
   room-is n =
       let s = accepted image b e in

@@ -5,6 +5,7 @@ ghost use lib.ListN.{length};
 ghost use lib.Seq.{sets, slice};
 ghost use Rattle.wire.specs.Internal.Words.{words};
 ghost use Rattle.image.specs.Internal.Write.{severityWords, limitWords, digitalBytes, analogBytes, recordBytes, recordsBytes, sectionBytes, hasRoom, writtenOf, imageBuffer};
+use settings::refusals::IMAGE_TOO_LONG;
 use settings::reply::Refusal;
 use settings::types::Alarm;
 use settings::types::Form;
@@ -173,7 +174,7 @@ pub fn write(settings: Settings, out: &mut [u8]) -> Written
     let alarms = settings.alarms;
     if !has_room(digital, analog, out.len()) {
         return Written::Refused(Refusal {
-            number: 13,
+            number: IMAGE_TOO_LONG,
             place: 0,
         });
     }

@@ -4,10 +4,14 @@ use mathlib.Core.Bool.{Bool, true, false}
 use mathlib.Core.List.{List, [], _∷_}
 use Prim.Native.Nat.{ℕ}
 use lib.Ieee.{Float, binary32, ofBits, ofInt, lt, le, neg, add, sub, mul, div}
-use lib.Dec.{leb·zero}
-use lib.ListN.{getD}
+use Rattle.wire.specs.Real.{zeroReal}
+use Rattle.settings.specs.Condition.{H, L}
+use Rattle.settings.specs.declared.types.Alarm.{Alarm}
 use Rattle.settings.specs.declared.types.Limits.{Limits}
-use Rattle.level.specs.Level.{zeroReal, metBits, freesBits}
+use Rattle.settings.specs.declared.types.Reading.{Reading}
+use Rattle.settings.specs.declared.types.Reading.the-variants.{Digital, Level}
+use Rattle.level.specs.Level.{met, frees}
+use Rattle.level.specs.Internal.Bits.{analogOf, metBits}
 use Rattle.level.specs.Rate.{newRate, sampleAfter}
 use Rattle.level.specs.declared.rate.Sample.{Sample}
 
@@ -27,71 +31,72 @@ limits =
       rocneg = real 0x40A00000;
     }
 
--- whether a reading meets the level of this place, H at 1 and L at 2, both enabled, and whether it would clear it
-abbrev met : ℕ → Float → Bool
-met place x = getD (metBits 6 limits 0 x zeroReal) place false
+-- H and L enabled, or no level; with a ROCPeriod
+abbrev both : Alarm
+both = analogOf 6 0 limits 0
 
-abbrev frees : ℕ → Float → Bool
-frees place x = getD (freesBits limits x) place false
+abbrev none : ℕ → Alarm
+none period = analogOf 0 0 limits period
+
+abbrev level : ℕ → Reading
+level pattern = Level (real pattern)
 
 -- 800 meets H, 780 neither meets nor clears it, 779.5 clears it
-high : (met 1 (real 0x44480000) ≡ true) × (met 1 (real 0x44430000) ≡ false) × (frees 1 (real 0x44430000) ≡ false) × (frees 1 (real 0x4442E000) ≡ true)
-unfolding metBits freesBits le ofBits sub
+high : (met both H (level 0x44480000) zeroReal ≡ true) × (met both H (level 0x44430000) zeroReal ≡ false)
+    × (frees both H (level 0x44430000) false ≡ false) × (frees both H (level 0x4442E000) false ≡ true)
+unfolding met frees le ofBits sub
 high = (refl, refl, refl, refl)
 
 -- 600 meets L, 620 does not clear it, 620.5 does
-low : (met 2 (real 0x44160000) ≡ true) × (frees 2 (real 0x441B0000) ≡ false) × (frees 2 (real 0x441B2000) ≡ true)
-unfolding metBits freesBits le ofBits add
+low : (met both L (level 0x44160000) zeroReal ≡ true) × (frees both L (level 0x441B0000) false ≡ false) × (frees both L (level 0x441B2000) false ≡ true)
+unfolding met frees le ofBits add
 low = (refl, refl, refl)
 
--- a level that is not enabled is not met
-disabled-level : metBits 0 limits 0 (real 0x44480000) zeroReal ≡ false ∷ false ∷ false ∷ false ∷ false ∷ false ∷ []
-unfolding metBits lt ofBits
+-- a level that is not enabled is not met, and a digital bit meets none
+disabled-level : metBits (none 0) (level 0x44480000) zeroReal ≡ false ∷ false ∷ false ∷ false ∷ false ∷ false ∷ []
+unfolding metBits met lt ofBits
 disabled-level = refl
+
+not-a-level : metBits both (Digital true) zeroReal ≡ false ∷ false ∷ false ∷ false ∷ false ∷ false ∷ []
+unfolding metBits met lt ofBits
+not-a-level = refl
 
 -- the sample 800 at time 0
 abbrev first : Sample
 first = record { value = real 0x44480000; rate = zeroReal; at = 0 }
 
 -- the first enabled scan stores the reading, with rate 0
-stored : (s : Sample) → sampleAfter 1000 true false 0 (real 0x44480000) s ≡ first
+stored : (s : Sample) → sampleAfter 1000 true false 0 (level 0x44480000) s ≡ first
 unfolding sampleAfter
 stored s = refl
 
 -- 810 at 999 keeps the sample and its rate
-early : sampleAfter 1000 true true 999 (real 0x444A8000) first ≡ first
+early : sampleAfter 1000 true true 999 (level 0x444A8000) first ≡ first
 unfolding sampleAfter
 early = refl
 
 -- 805 at 1000 gives rate 5
-due : sampleAfter 1000 true true 1000 (real 0x44494000) first ≡ record { value = real 0x44494000; rate = real 0x40A00000; at = 1000 }
+due : sampleAfter 1000 true true 1000 (level 0x44494000) first ≡ record { value = real 0x44494000; rate = real 0x40A00000; at = 1000 }
 unfolding sampleAfter newRate ofBits ofInt sub mul div
 due = refl
 
 -- rate 5 meets ROCPos and rate -5 meets ROCNeg, and with period 0 neither does
 abbrev rates : ℕ → Float → List Bool
-rates period rate = metBits 0 limits period zeroReal rate
+rates period rate = metBits (none period) (Level zeroReal) rate
 
 positive : rates 1000 (real 0x40A00000) ≡ false ∷ false ∷ false ∷ false ∷ true ∷ false ∷ []
-unfolding metBits lt le neg ofBits
+unfolding metBits met lt le neg ofBits
 positive = refl
 
 negative : rates 1000 (real 0xC0A00000) ≡ false ∷ false ∷ false ∷ false ∷ false ∷ true ∷ []
-unfolding metBits lt le neg ofBits
+unfolding metBits met lt le neg ofBits
 negative = refl
 
 no-rates : rates 0 (real 0x40A00000) ≡ false ∷ false ∷ false ∷ false ∷ false ∷ false ∷ []
-unfolding metBits lt ofBits
+unfolding metBits met lt ofBits
 no-rates = refl
 
 -- a disabled scan has rate 0, whatever came before
-disabled-scan : (period time : ℕ) (held : Bool) (x : Float) (s : Sample) → sampleAfter period false held time x s .rate ≡ zeroReal
+disabled-scan : (period time : ℕ) (held : Bool) (x : Reading) (s : Sample) → sampleAfter period false held time x s .rate ≡ zeroReal
 unfolding sampleAfter
 disabled-scan period time held x s = refl
-
--- and so has every scan with period 0
-no-period : (enabled held : Bool) (time : ℕ) (x : Float) (s : Sample) → sampleAfter 0 enabled held time x s .rate ≡ zeroReal
-unfolding sampleAfter newRate
-no-period true true time x s = rw leb·zero
-no-period true false time x s = refl
-no-period false held time x s = refl

@@ -1,44 +1,47 @@
--- When the conditions of an analog alarm are met, and when a scan would clear them if they are not. Comparisons and sums are in REAL.
+-- When a condition is met, and what else clears it. Comparisons and sums are in REAL. A reading of the other kind, which no accepted record has,
+-- meets and clears nothing.
 use Prim.Native.Nat.{ℕ}
-use mathlib.Core.Bool.{Bool, true, _&&_}
-use mathlib.Core.List.{List, [], _∷_}
+use mathlib.Core.Bool.{Bool, true, false, not, _&&_, _||_, Bool·beq}
 use lib.Dec.{ltb}
-use lib.Ieee.{Float, binary32, ofBits, lt, le, add, sub, neg}
-use Rattle.settings.specs.Rules.{onHH, onH, onL, onLL}
-use Rattle.settings.specs.declared.types.Limits.{Limits}
+use lib.Ieee.{Float, binary32, lt, le, add, sub, neg}
+use Rattle.wire.specs.Real.{zeroReal}
+use Rattle.settings.specs.Alarm.{conditionSet, latched, onHH, onH, onL, onLL, limitsOf, periodOf}
+use Rattle.settings.specs.Condition.{Condition, In, HH, H, L, LL, ROCPos, ROCNeg}
+use Rattle.settings.specs.declared.types.Alarm.{Alarm}
+use Rattle.settings.specs.declared.types.Reading.{Reading}
+use Rattle.settings.specs.declared.types.Reading.the-variants.{Digital, Level}
 
-abbrev pub zeroReal : Float
-zeroReal = ofBits binary32 0
+-- the reading is this digital bit
+abbrev pub isBit : Bool → Reading → Bool
+isBit condition (Digital input) = Bool·beq input condition
+isBit condition (Level x) = false
 
--- a high level is met at In >= limit, a low one at In <= limit; one that is not enabled is never met
-abbrev pub metHigh : Bool → Float → Float → Bool
-metHigh on limit x = on && le limit x
+-- the reading is a REAL with p
+abbrev pub isLevel : (Float → Bool) → Reading → Bool
+isLevel p (Digital input) = false
+isLevel p (Level x) = p x
 
-abbrev pub metLow : Bool → Float → Float → Bool
-metLow on limit x = on && le x limit
+-- a limit on the rate counts only where it and ROCPeriod exceed 0
+abbrev pub limited : Alarm → Float → Bool
+limited a limit = lt zeroReal limit && ltb 0 (periodOf (a .kind))
 
--- not met, a high level is cleared at In < limit - Deadband, a low one at In > limit + Deadband
-abbrev pub freesHigh : Float → Float → Float → Bool
-freesHigh limit deadband x = lt x (sub binary32 limit deadband)
+-- the condition is met by a reading and a rate: In equals Condition; In >= limit of HH, H, In <= limit of L, LL, where the level is enabled;
+-- rate >= ROCPosLimit, rate <= -ROCNegLimit
+unfoldable pub met : Alarm → Condition → Reading → Float → Bool
+met a In x rate = isBit (conditionSet (a .flags)) x
+met a HH x rate = onHH (a .flags) && isLevel (λ r. le (limitsOf (a .kind) .hh) r) x
+met a H x rate = onH (a .flags) && isLevel (λ r. le (limitsOf (a .kind) .h) r) x
+met a L x rate = onL (a .flags) && isLevel (λ r. le r (limitsOf (a .kind) .l)) x
+met a LL x rate = onLL (a .flags) && isLevel (λ r. le r (limitsOf (a .kind) .ll)) x
+met a ROCPos x rate = limited a (limitsOf (a .kind) .rocpos) && le (limitsOf (a .kind) .rocpos) rate
+met a ROCNeg x rate = limited a (limitsOf (a .kind) .rocneg) && le rate (neg (limitsOf (a .kind) .rocneg))
 
-abbrev pub freesLow : Float → Float → Float → Bool
-freesLow limit deadband x = lt (add binary32 limit deadband) x
-
--- a rate is met only where its limit and ROCPeriod exceed 0: ROCPos at rate >= ROCPosLimit, ROCNeg at rate <= -ROCNegLimit
-abbrev pub metPos : Float → ℕ → Float → Bool
-metPos limit period rate = lt zeroReal limit && ltb 0 period && le limit rate
-
-abbrev pub metNeg : Float → ℕ → Float → Bool
-metNeg limit period rate = lt zeroReal limit && ltb 0 period && le rate (neg limit)
-
--- the six conditions in order: HH, H, L, LL, ROCPos, ROCNeg
-unfoldable pub metBits : ℕ → Limits → ℕ → Float → Float → List Bool
-metBits flags g period x rate =
-    metHigh (onHH flags) (g .hh) x ∷ metHigh (onH flags) (g .h) x ∷ metLow (onL flags) (g .l) x ∷ metLow (onLL flags) (g .ll) x
-    ∷ metPos (g .rocpos) period rate ∷ metNeg (g .rocneg) period rate ∷ []
-
--- a rate that is not met is cleared
-unfoldable pub freesBits : Limits → Float → List Bool
-freesBits g x =
-    freesHigh (g .hh) (g .deadband) x ∷ freesHigh (g .h) (g .deadband) x ∷ freesLow (g .l) (g .deadband) x ∷ freesLow (g .ll) (g .deadband) x
-    ∷ true ∷ true ∷ []
+-- what clears it where it is not met: a reset in this scan or no latch, a reading past the Deadband, and of a rate nothing more
+unfoldable pub frees : Alarm → Condition → Reading → Bool → Bool
+frees a In x reset = not (latched (a .flags)) || reset
+frees a HH x reset = isLevel (λ r. lt r (sub binary32 (limitsOf (a .kind) .hh) (limitsOf (a .kind) .deadband))) x
+frees a H x reset = isLevel (λ r. lt r (sub binary32 (limitsOf (a .kind) .h) (limitsOf (a .kind) .deadband))) x
+frees a L x reset = isLevel (λ r. lt (add binary32 (limitsOf (a .kind) .l) (limitsOf (a .kind) .deadband)) r) x
+frees a LL x reset = isLevel (λ r. lt (add binary32 (limitsOf (a .kind) .ll) (limitsOf (a .kind) .deadband)) r) x
+frees a ROCPos x reset = true
+frees a ROCNeg x reset = true

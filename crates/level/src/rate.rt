@@ -1,15 +1,26 @@
 // The rate and its sample.
 ghost use mathlib.Core.Path.{_≡_};
 ghost use mathlib.Core.Bool.{cond};
-ghost use Rattle.level.specs.Rate.{periodReal, newRate, sampleAfter};
+ghost use Rattle.level.specs.Rate.{periodReal, newRate, valueOf, sampleAfter};
 use condition::row::choose;
 use condition::row::elapsed;
+use settings::types::Reading;
 
 // The stored reading, its scan's time, and the rate.
 pub struct Sample {
     pub value: f32,
     pub rate: f32,
     pub at: u64,
+}
+
+// The REAL that a sample stores.
+fn value_of(reading: Reading) -> f32
+    ensures { λ r. ⌜ r ≡ valueOf reading ⌝ }
+{
+    match reading {
+        Reading::Digital(_) => 0.0,
+        Reading::Level(x) => x,
+    }
 }
 
 fn period_real(period: u32) -> f32
@@ -38,9 +49,17 @@ fn either(c: bool, x: f32, y: f32) -> f32
 }
 
 // The sample after a scan. `held` says that the scan before was enabled and left the sample `s`.
-pub fn sample_after(period: u32, enabled: bool, held: bool, time: u64, x: f32, s: Sample) -> Sample
-    ensures { λ r. ⌜ r ≡ sampleAfter period enabled held time x s ⌝ }
+pub fn sample_after(
+    period: u32,
+    enabled: bool,
+    held: bool,
+    time: u64,
+    reading: Reading,
+    s: Sample,
+) -> Sample
+    ensures { λ r. ⌜ r ≡ sampleAfter period enabled held time reading s ⌝ }
 {
+    let x = value_of(reading);
     let due = period as u64 <= elapsed(s.at, time);
     let keeps = held & !due;
     let rate = either(due, new_rate(period, s.value, x), s.rate);

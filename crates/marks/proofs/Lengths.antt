@@ -4,14 +4,14 @@ use mathlib.Core.List.{List}
 use mathlib.Core.Path.{_≡_, refl}
 use Prim.Native.Nat.{ℕ, zero, suc}
 use lib.ListN.{length, length-set}
+use Rattle.condition.specs.Internal.Mark.{Turn}
 use Rattle.settings.specs.declared.types.Alarm.{Alarm}
 use Rattle.alarm.specs.declared.state.State.{State}
 use Rattle.marks.specs.Internal.Marks.{markCondition, markConditions, markAlarm, markAlarms}
 
-pub length-condition : (reset acknowledged returned activated required : Bool) (start time at : ℕ) (xs : List ℕ)
-    → length (markCondition reset acknowledged returned activated required start time at xs) ≡ length xs
+pub length-condition : (t : Turn) (at : ℕ) (xs : List ℕ) → length (markCondition t at xs) ≡ length xs
 unfolding markCondition
-length-condition reset acknowledged returned activated required start time at xs = simp length-set
+length-condition t at xs = simp length-set
 
 pub length-conditions : (required : Bool) (s : State) (word time base n : ℕ) (xs : List ℕ)
     → length (markConditions required s word time base n xs) ≡ length xs

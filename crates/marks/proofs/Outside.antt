@@ -8,17 +8,17 @@ use lib.ListN.{getD, set}
 use lib.Seq.{getD-set-other}
 use Rattle.wire.specs.Bits.{bit}
 use Rattle.condition.specs.Internal.Mark.{Marks, marksAfter, timeStampAfter}
-use Rattle.settings.specs.Alarm.{blank}
+use Rattle.settings.specs.Alarm.{blank, ackRequired}
 use Rattle.settings.specs.declared.types.Alarm.{Alarm}
 use Rattle.alarm.specs.Internal.Held.{freshState}
 use Rattle.alarm.specs.declared.state.State.{State}
-use Rattle.marks.specs.Internal.Marks.{marksAt, marksWords, startAt, requiredOf, markCondition, markConditions, markAlarm, markAlarms}
+use Rattle.marks.specs.Internal.Marks.{marksAt, marksWords, turnAt, markCondition, markConditions, markAlarm, markAlarms}
 use Rattle.marks.proofs.Runs.{Outside, sets-outside}
 
 module _ (required : Bool) (s : State) (word time : ℕ) where
   -- a condition's words after the scan
   abbrev pub after : ℕ → Marks → Marks
-  after c m = marksAfter (bit word 4) (bit word (6 + 3 * c)) (bit word (7 + 3 * c)) (bit word (8 + 3 * c)) required (startAt s c) time m
+  after c m = marksAfter (turnAt required s word time c) m
 
   -- the last of n + 1 conditions alone
   pub condition-outside : (base n j : ℕ) (xs : List ℕ) → Outside (base + 4 * n) 4 j
@@ -46,5 +46,5 @@ pub alarms-outside : (alarms : List Alarm) (states : List State) (events : List 
 unfolding markAlarms
 alarms-outside alarms states events time zero j xs h = refl
 alarms-outside alarms states events time (suc n) j xs h =
-    alarm-outside (requiredOf (getD alarms n blank .kind) (getD alarms n blank .flags)) (getD states n freshState) (getD events n 0) time (25 * n) j (markAlarms alarms states events time n xs) (λ k l e. omega arith)
+    alarm-outside (ackRequired (getD alarms n blank .kind) (getD alarms n blank .flags)) (getD states n freshState) (getD events n 0) time (25 * n) j (markAlarms alarms states events time n xs) (λ k l e. omega arith)
     ∙ alarms-outside alarms states events time n j xs (omega arith)

@@ -10,11 +10,11 @@ use lib.Seq.{getD-set-same, getD-set-other, sets}
 use Rattle.wire.specs.Bits.{bit}
 use Rattle.wire.proofs.Laws.{below}
 use Rattle.condition.specs.Internal.Mark.{Marks, marksAfter, timeStampAfter}
-use Rattle.settings.specs.Alarm.{blank}
+use Rattle.settings.specs.Alarm.{blank, ackRequired}
 use Rattle.settings.specs.declared.types.Alarm.{Alarm}
 use Rattle.alarm.specs.Internal.Held.{freshState}
 use Rattle.alarm.specs.declared.state.State.{State}
-use Rattle.marks.specs.Internal.Marks.{marksAt, marksWords, startAt, requiredOf, markCondition, markConditions, markAlarm, markAlarms}
+use Rattle.marks.specs.Internal.Marks.{marksAt, marksWords, turnAt, markCondition, markConditions, markAlarm, markAlarms}
 use Rattle.marks.proofs.Lengths.{length-conditions}
 pub use Rattle.marks.proofs.Lengths.{marks-length}
 use Rattle.marks.proofs.Runs.{sets-inside}
@@ -81,7 +81,7 @@ module _ (required : Bool) (s : State) (word time : ℕ) where
 
 module _ (alarms : List Alarm) (states : List State) (events : List ℕ) (time : ℕ) where
   abbrev required : ℕ → Bool
-  required p = requiredOf (getD alarms p blank .kind) (getD alarms p blank .flags)
+  required p = ackRequired (getD alarms p blank .kind) (getD alarms p blank .flags)
 
   -- marking the last of n + 1 alarms leaves those before it
   alarm-before : (n j : ℕ) (xs : List ℕ) → j < 25 * n → getD (markAlarms alarms states events time (suc n) xs) j 0 ≡ getD (markAlarms alarms states events time n xs) j 0
@@ -111,7 +111,7 @@ module _ (alarms : List Alarm) (states : List State) (events : List ℕ) (time :
   -- a condition's words after the scan, from those before it
   pub mark-read : (n p c : ℕ) (xs : List ℕ) → p < n → c < 6 → 25 * n ≤ length xs
       → marksAt (markAlarms alarms states events time n xs) (25 * p + 1 + 4 * c)
-      ≡ marksAfter (bit (getD events p 0) 4) (bit (getD events p 0) (6 + 3 * c)) (bit (getD events p 0) (7 + 3 * c)) (bit (getD events p 0) (8 + 3 * c)) (requiredOf (getD alarms p blank .kind) (getD alarms p blank .flags)) (startAt (getD states p freshState) c) time (marksAt xs (25 * p + 1 + 4 * c))
+      ≡ marksAfter (turnAt (ackRequired (getD alarms p blank .kind) (getD alarms p blank .flags)) (getD states p freshState) (getD events p 0) time c) (marksAt xs (25 * p + 1 + 4 * c))
   mark-read zero p c xs l m h = absurd (not-suc-le-zero l)
   mark-read (suc n) p c xs l m h =
       let ys = markAlarms alarms states events time n xs in

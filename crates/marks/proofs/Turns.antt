@@ -9,11 +9,11 @@ use lib.ListN.{getD}
 use lib.Pow.{shr-shr}
 use Rattle.wire.specs.Bits.{bit}
 use Rattle.wire.proofs.WordLaws.{bit-shift}
-use Rattle.settings.specs.Alarm.{blank}
+use Rattle.settings.specs.Alarm.{blank, ackRequired}
 use Rattle.settings.specs.declared.types.Alarm.{Alarm}
 use Rattle.alarm.specs.Internal.Held.{freshState}
 use Rattle.alarm.specs.declared.state.State.{State}
-use Rattle.marks.specs.Internal.Marks.{startAt, requiredOf, markCondition, markConditions, markAlarm, markAlarms}
+use Rattle.marks.specs.Internal.Marks.{startAt, turnBy, markCondition, markConditions, markAlarm, markAlarms}
 
 -- events without those of the first n conditions, and then of one more
 pub rest-next : (word n : ℕ) {rest : ℕ} → rest ≡ word / 2 ^ (6 + 3 * n) → rest / 8 ≡ word / 2 ^ (6 + 3 * (n + 1))
@@ -27,7 +27,7 @@ rest-bit word n j k e p = ap (λ (w : ℕ). bit w j) e ∙ bit-shift word (6 + 3
 -- the first n conditions are marked, and then the next
 pub conditions-next : (required : Bool) (s : State) (word time base n : ℕ) (xs : List ℕ) {rest start : ℕ} {marks : List ℕ}
     → rest ≡ word / 2 ^ (6 + 3 * n) → start ≡ startAt s n → marks ≡ markConditions required s word time base n xs
-    → markCondition (bit word 4) (bit rest 0) (bit rest 1) (bit rest 2) required start time (base + 4 * n) marks
+    → markCondition (turnBy (bit word 4) rest required start time) (base + 4 * n) marks
     ≡ markConditions required s word time base (n + 1) xs
 unfolding markConditions
 conditions-next required s word time base n xs e f g =
@@ -35,7 +35,7 @@ conditions-next required s word time base n xs e f g =
 
 -- the first n alarms are marked, and then the next
 pub alarms-next : (alarms : List Alarm) (states : List State) (events : List ℕ) (time n : ℕ) (xs : List ℕ) {required : Bool} {s : State} {marks : List ℕ}
-    → required ≡ requiredOf (getD alarms n blank .kind) (getD alarms n blank .flags) → s ≡ getD states n freshState
+    → required ≡ ackRequired (getD alarms n blank .kind) (getD alarms n blank .flags) → s ≡ getD states n freshState
     → marks ≡ markAlarms alarms states events time n xs
     → markAlarm required s (getD events n 0) time (25 * n) marks ≡ markAlarms alarms states events time (n + 1) xs
 unfolding markAlarms

@@ -2,7 +2,8 @@
 ghost use mathlib.Core.Path.{_≡_};
 ghost use Prim.Native.Nat.{_+_, _≤_};
 ghost use lib.ListN.{length};
-ghost use Rattle.marks.specs.Internal.Marks.{requiredOf, markConditions, markAlarm};
+ghost use Rattle.settings.specs.Alarm.{ackRequired};
+ghost use Rattle.marks.specs.Internal.Marks.{markConditions, markAlarm};
 use crate::words::mark_condition;
 use crate::words::start_at;
 use alarm::state::State;
@@ -12,7 +13,7 @@ use settings::types::Kind;
 
 // AckRequired.
 pub fn is_required(alarm: Alarm) -> bool
-    ensures { λ r. ⌜ r ≡ requiredOf (alarm .kind) (alarm .flags) ⌝ }
+    ensures { λ r. ⌜ r ≡ ackRequired (alarm .kind) (alarm .flags) ⌝ }
 {
     let flags = alarm.flags;
     let kind = alarm.kind;

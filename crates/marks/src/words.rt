@@ -2,8 +2,7 @@
 ghost use mathlib.Core.Path.{_≡_};
 ghost use Prim.Native.Nat.{_+_, _≤_, _<_};
 ghost use lib.ListN.{length};
-ghost use Rattle.wire.specs.Bits.{bit};
-ghost use Rattle.marks.specs.Internal.Marks.{markCondition, startAt};
+ghost use Rattle.marks.specs.Internal.Marks.{markCondition, startAt, turnBy};
 use alarm::state::State;
 use condition::mark::ack_stamp;
 use condition::mark::count_after;
@@ -30,7 +29,7 @@ pub fn mark_condition(
     time: u64,
 )
     requires { ⌜ at + 4 ≤ length (now marks) ⌝ }
-    ensures { λ _. ⌜ now (marks .exit) ≡ markCondition reset (bit events 0) (bit events 1) (bit events 2) required start time at (now (marks .entry)) ⌝ }
+    ensures { λ _. ⌜ now (marks .exit) ≡ markCondition (turnBy reset events required start time) at (now (marks .entry)) ⌝ }
 {
     let acknowledged = events % 2 == 1;
     let returned = events / 2 % 2 == 1;

@@ -5,7 +5,7 @@ use mathlib.Core.List.{List, [], _∷_, _++_}
 use lib.ListN.{getD}
 use lib.Ieee.{binary32, toBits}
 use Rattle.wire.specs.Number.{bytes}
-use Rattle.report.specs.Internal.Status.{noStatus}
+use Rattle.report.specs.Empty.{noStatus}
 use Rattle.report.specs.Internal.Report.{reportOf}
 use Rattle.report.specs.declared.whole.Whole.{Whole}
 use Rattle.report.specs.declared.status.Status.{Status}

@@ -1,6 +1,6 @@
 // Sizes that a caller needs before it lends buffers.
 ghost use mathlib.Core.Path.{_≡_};
-ghost use Rattle.scan_record.specs.Check.{lengthOf};
+ghost use Rattle.scan_record.specs.Internal.Size.{lengthOf};
 use scan_record::check::record_length;
 
 // Of these calls and their layouts.

@@ -4,9 +4,10 @@ use mathlib.Core.List.{List}
 use mathlib.Core.Bool.{cond}
 use lib.Dec.{ltb, leb}
 use lib.ListN.{length, getD}
+use lib.Ieee.{Float}
 use Rattle.wire.specs.Number.{number}
 use Rattle.wire.specs.Real.{realAt}
-use Rattle.settings.specs.Refusals.{refusal}
+use Rattle.settings.specs.Refusals.{outOfRange, unknownFlag, wrongLimits, incomplete}
 use Rattle.settings.specs.Rules.{durationInRange, inRange, apart}
 use Rattle.settings.specs.declared.types.Limits.{Limits}
 use Rattle.settings.specs.declared.types.Severities.{Severities}
@@ -26,33 +27,20 @@ digitalAlarm image at =
 unfoldable pub digitalRecord : List ℕ → ℕ → Record
 digitalRecord image at =
     cond (ltb (getD image at 0) 8)
-    (cond (durationInRange (number image (at + 5) 4)) (Read (digitalAlarm image at) (at + 9)) (Refused (refusal 4 at)))
-    (Refused (refusal 3 at))
+    (cond (durationInRange (number image (at + 5) 4)) (Read (digitalAlarm image at) (at + 9)) (Refused (outOfRange at)))
+    (Refused (unknownFlag at))
 
 -- six severities in the order HH, H, L, LL, ROCPos, ROCNeg
 unfoldable pub severitiesAt : List ℕ → ℕ → Severities
 severitiesAt s at =
-    record {
-      hh = number s at 4;
-      h = number s (at + 4) 4;
-      l = number s (at + 8) 4;
-      ll = number s (at + 12) 4;
-      rocpos = number s (at + 16) 4;
-      rocneg = number s (at + 20) 4;
-    }
+    let n : ℕ → ℕ = λ o. number s o 4 in
+    record { hh = n at; h = n (at + 4); l = n (at + 8); ll = n (at + 12); rocpos = n (at + 16); rocneg = n (at + 20) }
 
 -- the limits HH, H, L, LL, then Deadband, ROCPosLimit, ROCNegLimit
 unfoldable pub limitsAt : List ℕ → ℕ → Limits
 limitsAt s at =
-    record {
-      hh = realAt s at;
-      h = realAt s (at + 4);
-      l = realAt s (at + 8);
-      ll = realAt s (at + 12);
-      deadband = realAt s (at + 16);
-      rocpos = realAt s (at + 20);
-      rocneg = realAt s (at + 24);
-    }
+    let r : ℕ → Float = λ o. realAt s o in
+    record { hh = r at; h = r (at + 4); l = r (at + 8); ll = r (at + 12); deadband = r (at + 16); rocpos = r (at + 20); rocneg = r (at + 24) }
 
 -- analog, 61 bytes: flags, severities, REALs, ROCPeriod, MinDuration
 unfoldable pub analogAlarm : List ℕ → ℕ → Alarm
@@ -70,9 +58,9 @@ analogRecord image at =
     (cond (inRange (limitsAt image (at + 25)) (number image (at + 53) 4) (number image (at + 57) 4))
     (cond (apart (getD image at 0) (limitsAt image (at + 25)))
     (Read (analogAlarm image at) (at + 61))
-    (Refused (refusal 5 at)))
-    (Refused (refusal 4 at)))
-    (Refused (refusal 3 at))
+    (Refused (wrongLimits at)))
+    (Refused (outOfRange at)))
+    (Refused (unknownFlag at))
 
 -- how many bytes a record has
 abbrev pub sizeOf : Form → ℕ
@@ -86,4 +74,4 @@ wholeRecord AnalogForm image at = analogRecord image at
 
 -- 1 where it is incomplete, then its own checks
 unfoldable pub recordAt : Form → List ℕ → ℕ → Record
-recordAt form image at = cond (leb (at + sizeOf form) (length image)) (wholeRecord form image at) (Refused (refusal 1 at))
+recordAt form image at = cond (leb (at + sizeOf form) (length image)) (wholeRecord form image at) (Refused (incomplete at))

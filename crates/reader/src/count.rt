@@ -1,6 +1,8 @@
 // The count byte in front of a section.
 ghost use mathlib.Core.Path.{_≡_};
 ghost use Rattle.reader.specs.Count.{countAt};
+use settings::refusals::INCOMPLETE;
+use settings::refusals::TOO_MANY;
 use settings::reply::Refusal;
 
 // How many alarms a section has and where its first record begins, or the refusal.
@@ -14,7 +16,7 @@ pub fn count_at(image: &[u8], at: usize) -> Count
 {
     if image.len() <= at {
         return Count::Refused(Refusal {
-            number: 1,
+            number: INCOMPLETE,
             place: at,
         });
     }
@@ -23,7 +25,7 @@ pub fn count_at(image: &[u8], at: usize) -> Count
         Count::Alarms(n as usize, at + 1)
     } else {
         Count::Refused(Refusal {
-            number: 2,
+            number: TOO_MANY,
             place: at,
         })
     }

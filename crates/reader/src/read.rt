@@ -4,6 +4,7 @@ ghost use Prim.Native.Nat.{_≤_};
 ghost use Rattle.reader.specs.Read.{readOf, restOf, refusedBy};
 use crate::section::Section;
 use crate::section::section_at;
+use settings::refusals::LEFT_OVER;
 use settings::reply::Refusal;
 use settings::reply::Reply;
 use settings::types::Alarm;
@@ -39,7 +40,7 @@ fn read_rest(image: &[u8], digital: usize, at: usize, given: [Alarm; 24]) -> Loa
         Section::Read(analog, end) => {
             if end < image.len() {
                 return refused(Refusal {
-                    number: 6,
+                    number: LEFT_OVER,
                     place: end,
                 });
             }

@@ -4,6 +4,10 @@ ghost use Prim.Native.Nat.{_+_, _≤_};
 ghost use lib.ListN.{length};
 ghost use Rattle.settings.specs.Refusals.{refusal};
 ghost use Rattle.reader.specs.Record.{limitsAt, severitiesAt, digitalRecord, analogRecord, sizeOf, recordAt};
+use settings::refusals::INCOMPLETE;
+use settings::refusals::OUT_OF_RANGE;
+use settings::refusals::UNKNOWN_FLAG;
+use settings::refusals::WRONG_LIMITS;
 use settings::reply::Refusal;
 use settings::rules::levels_apart;
 use settings::rules::numbers_in_range;
@@ -66,10 +70,10 @@ fn digital_record(image: &[u8], at: usize) -> Record
     let severity = get_u32(image, at + 1);
     let duration = get_u32(image, at + 5);
     if 8 <= flags {
-        return refuse(3, at);
+        return refuse(UNKNOWN_FLAG, at);
     }
     if 0x7FFF_FFFF < duration {
-        return refuse(4, at);
+        return refuse(OUT_OF_RANGE, at);
     }
     let kind = Kind::Digital { severity };
     Record::Alarm(
@@ -93,13 +97,13 @@ fn analog_record(image: &[u8], at: usize) -> Record
     let period = get_u32(image, at + 53);
     let duration = get_u32(image, at + 57);
     if 32 <= flags {
-        return refuse(3, at);
+        return refuse(UNKNOWN_FLAG, at);
     }
     if !numbers_in_range(limits, period, duration) {
-        return refuse(4, at);
+        return refuse(OUT_OF_RANGE, at);
     }
     if !levels_apart(flags, limits) {
-        return refuse(5, at);
+        return refuse(WRONG_LIMITS, at);
     }
     let kind = Kind::Analog {
         limits,
@@ -129,7 +133,7 @@ pub fn record_at(image: &[u8], at: usize, form: Form) -> Record
     ensures { λ r. ⌜ r ≡ recordAt form (now (image .entry)) at ⌝ }
 {
     if !has(image, at, record_size(form)) {
-        return refuse(1, at);
+        return refuse(INCOMPLETE, at);
     }
     match form {
         Form::Digital => digital_record(image, at),

@@ -10,7 +10,8 @@ use borrow.Author.Tests.{leb-true, leb-false}
 use lib.Dec.{leb}
 use lib.ListN.{length, take, drop, length-append, length-take, length-drop, drop-of-length-le}
 use lib.Seq.{take-all}
-use Rattle.scan_record.specs.Check.{recordSize, lengthOf}
+use Rattle.scan_record.specs.Part.{recordSize}
+use Rattle.scan_record.specs.Internal.Size.{lengthOf}
 use Rattle.bank.specs.Internal.Scan.{scanOf, eventBuffer}
 use Rattle.bank.specs.declared.bank.Bank.{Bank}
 use Rattle.bank.specs.declared.scan.Scanned.{Scanned}

@@ -6,7 +6,7 @@ use lib.Dec.{eqb}
 use lib.ListN.{length, take, drop}
 use Rattle.settings.specs.declared.types.Settings.{Settings}
 use Rattle.alarm.specs.declared.state.State.{State}
-use Rattle.scan_record.specs.Check.{lengthOf}
+use Rattle.scan_record.specs.Internal.Size.{lengthOf}
 use Rattle.bank.specs.Internal.Scan.{scanOf, eventBuffer}
 use Rattle.bank.specs.declared.bank.Bank.{Bank}
 use Rattle.bank.specs.declared.parts.Answer.{Answer}

@@ -1,42 +1,46 @@
 -- Laws of a record's parts: where they end, and the walk through them. Assumes nothing.
-use mathlib.Core.Path.{_≡_, refl}
+use mathlib.Core.Path.{_≡_, refl, sym, _∙_}
 use mathlib.Core.List.{List}
 use mathlib.Core.Bool.{Bool, true, false, _&&_, cond}
-use Prim.Native.Nat.{ℕ, suc, _+_, _-_, _≤_, _<_}
+use Prim.Native.Nat.{ℕ, zero, suc, _+_, _-_, _≤_, _<_}
 use native.Mathlib.Nat.{sub-self}
 use native.Mathlib.Omega.{arith}
 use borrow.Author.Tests.{ltb-true, ltb-false, leb-true, eqb-true}
 use lib.Dec.{ltb, leb, eqb}
 use lib.ListN.{length, getD}
-use Rattle.wire.specs.Number.{number}
 use Rattle.wire.proofs.Laws.{and-true}
 use Rattle.wire.specs.Real.{realAt, bounded}
-use Rattle.settings.specs.Refusals.{refusal}
+use Rattle.settings.specs.Refusals.{notABit, badReal, unknownCommand, wrongLength, earlierTime}
 use Rattle.settings.specs.declared.types.Form.{Form}
 use Rattle.settings.specs.declared.types.Form.the-variants.{Digital, Analog}
 use Rattle.settings.specs.declared.reply.Refusal.{Refusal}
 use Rattle.settings.specs.declared.reply.Reply.{Reply}
 use Rattle.settings.specs.declared.reply.Reply.the-variants.{Accepted, Refused as RefusedBy}
-use Rattle.alarm.specs.declared.step.Reading.{Reading}
-use Rattle.alarm.specs.declared.step.Reading.the-variants.{Digital as Bit, Level}
-use Rattle.scan_record.specs.Entry.{digitalWord, analogWord, digitalEntry, analogEntry, entrySize, entryAt}
-use Rattle.scan_record.specs.Check.{formAt, recordSize, checkFrom, whole, checkRecord}
-use Rattle.scan_record.specs.Part.{timeOf, offsetOf}
+use Rattle.settings.specs.declared.types.Reading.{Reading}
+use Rattle.scan_record.specs.Entry.{digitalWord, analogWord, digitalEntry, analogEntry, entryAt}
+use Rattle.scan_record.specs.Internal.Size.{entrySize}
+use Rattle.scan_record.specs.Part.{formAt, recordSize, timeOf, offsetOf, readingAt, wordAt}
+use Rattle.scan_record.specs.Check.{checkFrom, whole, checkRecord}
 use Rattle.scan_record.specs.declared.entry.Entry.the-variants.{Read, Refused}
+use Rattle.scan_record.specs.declared.entry.Entry.{Entry}
 
 -- a choice of reading or refusals that ended in a reading
-picked : (p q : Bool) (x y : Reading) (v w n m : ℕ) (r r′ : Refusal) → cond p (cond q (Read x v n) (Refused r)) (Refused r′) ≡ Read y w m → m ≡ n
-picked true true x y v w n m r r′ e = cc
+picked : (p q : Bool) (x y : Reading) (v w n m : ℕ) (r r′ : Refusal) → cond p (cond q (Read x v n) (Refused r)) (Refused r′) ≡ Read y w m → Read x v n ≡ Read y w m
+picked true true x y v w n m r r′ e = e
 picked true false x y v w n m r r′ e = cc
 picked false q x y v w n m r r′ e = cc
 
--- a part that was read ends past its bytes
-pub entry-past : (form : Form) (bytes : List ℕ) (at alarm : ℕ) {x : Reading} {word next : ℕ} → entryAt form bytes at alarm ≡ Read x word next → next ≡ at + entrySize form
+-- a part that was read is what stands there, and ends past its bytes
+pub entry-read : (form : Form) (bytes : List ℕ) (at alarm : ℕ) {x : Reading} {word next : ℕ} → entryAt form bytes at alarm ≡ Read x word next
+    → Read (readingAt form bytes at) (wordAt form bytes at) (at + entrySize form) ≡ Read x word next
 unfolding digitalEntry analogEntry
-entry-past Digital bytes at alarm {x} {word} {next} e =
-    picked (leb (getD bytes at 0) 1) (digitalWord (number bytes (at + 1) 4)) (Bit (eqb (getD bytes at 0) 1)) x (number bytes (at + 1) 4) word (at + 5) next (refusal 11 alarm) (refusal 9 alarm) e
-entry-past Analog bytes at alarm {x} {word} {next} e =
-    picked (bounded (realAt bytes at)) (analogWord (number bytes (at + 4) 4)) (Level (realAt bytes at)) x (number bytes (at + 4) 4) word (at + 8) next (refusal 11 alarm) (refusal 10 alarm) e
+entry-read Digital bytes at alarm {x} {word} {next} e =
+    picked (leb (getD bytes at 0) 1) (digitalWord (wordAt Digital bytes at)) (readingAt Digital bytes at) x (wordAt Digital bytes at) word (at + 5) next (unknownCommand alarm) (notABit alarm) e
+entry-read Analog bytes at alarm {x} {word} {next} e =
+    picked (bounded (realAt bytes at)) (analogWord (wordAt Analog bytes at)) (readingAt Analog bytes at) x (wordAt Analog bytes at) word (at + 8) next (unknownCommand alarm) (badReal alarm) e
+
+pub entry-past : (form : Form) (bytes : List ℕ) (at alarm : ℕ) {x : Reading} {word next : ℕ} → entryAt form bytes at alarm ≡ Read x word next → next ≡ at + entrySize form
+entry-past form bytes at alarm e = let r = entry-read form bytes at alarm e in cc
 
 pub offset-next : (digital place : ℕ) → offsetOf digital place + entrySize (formAt digital place) ≡ offsetOf digital (place + 1)
 offset-next digital place = go (ltb place digital) refl
@@ -62,6 +66,32 @@ module _ (bytes : List ℕ) (digital : ℕ) where
   pub check-end : (place at : ℕ) → checkFrom bytes digital (place - place) place at ≡ Accepted
   unfolding checkFrom
   check-end place at = rw sub-self
+
+  -- the part of the alarm at a place, read
+  abbrev pub PartRead : ℕ → Type 0
+  PartRead p =
+      let form = formAt digital p in
+      let at = offsetOf digital p in
+      entryAt form bytes at (p + 1) ≡ Read (readingAt form bytes at) (wordAt form bytes at) (at + entrySize form)
+
+  -- in a record that passed, each part is read
+  pub all-read : (k place at : ℕ) → at ≡ offsetOf digital place → checkFrom bytes digital k place at ≡ Accepted → (p : ℕ) → place ≤ p → p < place + k → PartRead p
+  unfolding checkFrom
+  all-read zero place at o e p l h = absurd (omega arith)
+  all-read (suc k) place at o e p l h =
+      go (entryAt (formAt digital place) bytes at (place + 1)) refl (λ next n c m. all-read k (place + 1) next n c p m (omega arith))
+    where
+      here-or-later : PartRead place → (place + 1 ≤ p → PartRead p) → (t : Bool) → ltb place p ≡ t → PartRead p
+      here-or-later here later true q = later (omega (arith, ltb-true place p q))
+      here-or-later here later false q = let same : place ≡ p = omega (arith, ltb-false place p q) in rw same at here
+
+      go : (r : Entry) → entryAt (formAt digital place) bytes at (place + 1) ≡ r
+          → ((next : ℕ) → next ≡ offsetOf digital (place + 1) → checkFrom bytes digital k (place + 1) next ≡ Accepted → place + 1 ≤ p → PartRead p) → PartRead p
+      go (Read x word next) r later =
+          let whole = entry-read (formAt digital place) bytes at (place + 1) r in
+          let n : next ≡ offsetOf digital (place + 1) = entry-past (formAt digital place) bytes at (place + 1) r ∙ rw o (offset-next digital place) in
+          here-or-later (rw o at (r ∙ sym whole)) (later next n (rw r at e)) (ltb place p) refl
+      go (Refused x) r later = let f = rw r at e in let z : _≡_ {A = ℕ} 0 1 = cc in absurd (omega arith)
 
 -- what a record of the right length says of the numbers of alarms
 pub record Whole (digital analog len : ℕ) : Type 0 where
@@ -91,5 +121,5 @@ pub accepted-says : (digital analog last : ℕ) (rec : List ℕ) → checkRecord
     → Whole digital analog (length rec) × (last ≤ timeOf rec) × (checkFrom rec digital (digital + analog) 0 8 ≡ Accepted)
 unfolding checkRecord
 accepted-says digital analog last rec e =
-    let t = passed (whole digital analog (length rec)) (ltb (timeOf rec) last) (refusal 8 0) (refusal 7 0) (checkFrom rec digital (digital + analog) 0 8) e in
+    let t = passed (whole digital analog (length rec)) (ltb (timeOf rec) last) earlierTime wrongLength (checkFrom rec digital (digital + analog) 0 8) e in
     (whole-says digital analog (length rec) (t .0), ltb-false (timeOf rec) last (t .1), t .2)

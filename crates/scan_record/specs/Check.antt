@@ -1,32 +1,18 @@
--- The check of a whole scan record, alarm by alarm in number order.
-use Prim.Native.Nat.{ℕ, zero, suc, _+_, _*_}
+-- The check of a whole scan record: its length and time, then each alarm in number order, the first refusal named.
+use Prim.Native.Nat.{ℕ, zero, suc, _+_}
 use mathlib.Core.List.{List}
 use mathlib.Core.Bool.{Bool, _&&_, cond}
 use lib.Dec.{leb, ltb, eqb}
 use lib.ListN.{length}
-use Rattle.settings.specs.declared.types.Form.{Form}
-use Rattle.settings.specs.declared.types.Form.the-variants.{Digital, Analog}
-use Rattle.settings.specs.Refusals.{refusal}
+use Rattle.settings.specs.Refusals.{wrongLength, earlierTime}
 use Rattle.settings.specs.declared.reply.Refusal.{Refusal}
 use Rattle.settings.specs.declared.reply.Reply.{Reply}
 use Rattle.settings.specs.declared.reply.Reply.the-variants.{Accepted, Refused as RefusedBy}
-use Rattle.alarm.specs.declared.step.Reading.{Reading}
+use Rattle.settings.specs.declared.types.Reading.{Reading}
+use Rattle.scan_record.specs.Part.{timeOf, formAt, recordSize}
 use Rattle.scan_record.specs.Entry.{entryAt}
-use Rattle.scan_record.specs.Part.{timeOf}
 use Rattle.scan_record.specs.declared.entry.Entry.{Entry}
 use Rattle.scan_record.specs.declared.entry.Entry.the-variants.{Read, Refused}
-
--- the digital alarms come first
-abbrev pub formAt : ℕ → ℕ → Form
-formAt digital place = cond (ltb place digital) Digital Analog
-
--- the time, then 5 bytes for each digital and 8 for each analog alarm
-abbrev pub recordSize : ℕ → ℕ → ℕ
-recordSize digital analog = 8 + 5 * digital + 8 * analog
-
--- the length of a bank's records. (A bank with counts over 12, which no call hands back, has none; each 8 bytes are refused then)
-unfoldable pub lengthOf : ℕ → ℕ → ℕ
-lengthOf digital analog = cond (leb digital 12 && leb analog 12) (recordSize digital analog) 8
 
 abbrev pub onEntry : Entry → (Reading → ℕ → ℕ → Reply) → (Refusal → Reply) → Reply
 onEntry (Read x word next) f g = f x word next
@@ -44,9 +30,9 @@ checkFrom bytes digital (suc k) place at =
 unfoldable pub whole : ℕ → ℕ → ℕ → Bool
 whole digital analog len = leb digital 12 && leb analog 12 && eqb len (recordSize digital analog)
 
--- a record, given the number of alarms and the time of the last accepted scan: 7, then 8, then each alarm
+-- a record, given the number of alarms and the time of the last accepted scan
 unfoldable pub checkRecord : ℕ → ℕ → ℕ → List ℕ → Reply
 checkRecord digital analog last rec =
     cond (whole digital analog (length rec))
-    (cond (ltb (timeOf rec) last) (RefusedBy (refusal 8 0)) (checkFrom rec digital (digital + analog) 0 8))
-    (RefusedBy (refusal 7 0))
+    (cond (ltb (timeOf rec) last) (RefusedBy earlierTime) (checkFrom rec digital (digital + analog) 0 8))
+    (RefusedBy wrongLength)

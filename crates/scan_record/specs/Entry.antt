@@ -1,16 +1,15 @@
--- One alarm's part of a scan record: reading, then command word. A refusal's place is the alarm's number.
+-- One alarm's part of a scan record, checked: the reading before the command word.
 use Prim.Native.Nat.{ℕ, _+_, _/_, _%_}
 use mathlib.Core.List.{List}
 use mathlib.Core.Bool.{Bool, not, _&&_, cond}
 use lib.Dec.{leb, ltb, eqb}
 use lib.ListN.{getD}
-use Rattle.wire.specs.Number.{number}
 use Rattle.wire.specs.Real.{realAt, bounded}
 use Rattle.wire.specs.Bits.{bit}
-use Rattle.settings.specs.Refusals.{refusal}
+use Rattle.settings.specs.Refusals.{notABit, badReal, unknownCommand}
 use Rattle.settings.specs.declared.types.Form.{Form}
 use Rattle.settings.specs.declared.types.Form.the-variants.{Digital, Analog}
-use Rattle.alarm.specs.declared.step.Reading.the-variants.{Digital as Bit, Level}
+use Rattle.scan_record.specs.Part.{readingAt, wordAt}
 use Rattle.scan_record.specs.declared.entry.Entry.{Entry}
 use Rattle.scan_record.specs.declared.entry.Entry.the-variants.{Read, Refused}
 
@@ -22,27 +21,19 @@ digitalWord w = eqb (w / 8192 % 4096) 0 && ltb w 67108864
 abbrev pub analogWord : ℕ → Bool
 analogWord w = not (bit w 1) && not (bit w 8) && ltb w 67108864
 
--- one byte, 0 or 1, and the word: 9, then 11
+-- a byte that is 0 or 1, and the word
 unfoldable pub digitalEntry : List ℕ → ℕ → ℕ → Entry
 digitalEntry rec at alarm =
     cond (leb (getD rec at 0) 1)
-    (cond (digitalWord (number rec (at + 1) 4))
-    (Read (Bit (eqb (getD rec at 0) 1)) (number rec (at + 1) 4) (at + 5))
-    (Refused (refusal 11 alarm)))
-    (Refused (refusal 9 alarm))
+    (cond (digitalWord (wordAt Digital rec at)) (Read (readingAt Digital rec at) (wordAt Digital rec at) (at + 5)) (Refused (unknownCommand alarm)))
+    (Refused (notABit alarm))
 
--- a REAL within the bound, and the word: 10, then 11
+-- a REAL within the bound, and the word
 unfoldable pub analogEntry : List ℕ → ℕ → ℕ → Entry
 analogEntry rec at alarm =
     cond (bounded (realAt rec at))
-    (cond (analogWord (number rec (at + 4) 4))
-    (Read (Level (realAt rec at)) (number rec (at + 4) 4) (at + 8))
-    (Refused (refusal 11 alarm)))
-    (Refused (refusal 10 alarm))
-
-abbrev pub entrySize : Form → ℕ
-entrySize Digital = 5
-entrySize Analog = 8
+    (cond (analogWord (wordAt Analog rec at)) (Read (readingAt Analog rec at) (wordAt Analog rec at) (at + 8)) (Refused (unknownCommand alarm)))
+    (Refused (badReal alarm))
 
 abbrev pub entryAt : Form → List ℕ → ℕ → ℕ → Entry
 entryAt Digital rec at alarm = digitalEntry rec at alarm

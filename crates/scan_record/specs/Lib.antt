@@ -1,3 +1,4 @@
-pub mod Entry
 pub mod Part
+pub mod Entry
 pub mod Check
+pub mod Internal

@@ -1,29 +1,40 @@
--- What a scan record says to the alarm at a place: reading and command word, where they stand.
+-- A scan record: the time, then for each alarm in number order its reading and a command word.
 use Prim.Native.Nat.{ℕ, _+_, _*_, _-_, min}
 use mathlib.Core.List.{List}
-use lib.Dec.{eqb}
+use mathlib.Core.Bool.{cond}
+use lib.Dec.{ltb, eqb}
 use lib.ListN.{getD}
 use Rattle.wire.specs.Number.{number}
 use Rattle.wire.specs.Real.{realAt}
 use Rattle.settings.specs.declared.types.Form.{Form}
 use Rattle.settings.specs.declared.types.Form.the-variants.{Digital, Analog}
-use Rattle.alarm.specs.declared.step.Reading.{Reading}
-use Rattle.alarm.specs.declared.step.Reading.the-variants.{Digital as Bit, Level}
+use Rattle.settings.specs.declared.types.Reading.{Reading}
+use Rattle.settings.specs.declared.types.Reading.the-variants.{Digital as Bit, Level}
 
--- the scan's time stands first
+-- the scan's time stands first, in 8 bytes
 abbrev pub timeOf : List ℕ → ℕ
 timeOf rec = number rec 0 8
 
--- where the part of the alarm at a place begins: after the time and 5 bytes for each digital, 8 for each analog alarm before it
-abbrev pub offsetOf : ℕ → ℕ → ℕ
-offsetOf digital place = 8 + 5 * min place digital + 8 * (place - digital)
+-- the digital alarms come first
+abbrev pub formAt : ℕ → ℕ → Form
+formAt digital place = cond (ltb place digital) Digital Analog
 
--- a digital bit in one byte, or a REAL in four
+-- an alarm's part: a digital bit in one byte or a REAL in four, then the command word in four
+abbrev pub readingSize : Form → ℕ
+readingSize Digital = 1
+readingSize Analog = 4
+
 abbrev pub readingAt : Form → List ℕ → ℕ → Reading
 readingAt Digital rec at = Bit (eqb (getD rec at 0) 1)
 readingAt Analog rec at = Level (realAt rec at)
 
--- the command word behind the reading
 abbrev pub wordAt : Form → List ℕ → ℕ → ℕ
-wordAt Digital rec at = number rec (at + 1) 4
-wordAt Analog rec at = number rec (at + 4) 4
+wordAt form rec at = number rec (at + readingSize form) 4
+
+-- where the part of the alarm at a place begins
+abbrev pub offsetOf : ℕ → ℕ → ℕ
+offsetOf digital place = 8 + 5 * min place digital + 8 * (place - digital)
+
+-- the length of a record
+abbrev pub recordSize : ℕ → ℕ → ℕ
+recordSize digital analog = 8 + 5 * digital + 8 * analog

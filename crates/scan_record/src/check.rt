@@ -2,9 +2,13 @@
 ghost use mathlib.Core.Path.{_≡_};
 ghost use Prim.Native.Nat.{_+_, _≤_};
 ghost use lib.ListN.{length};
-ghost use Rattle.scan_record.specs.Check.{formAt, recordSize, lengthOf, checkFrom, whole, checkRecord};
+ghost use Rattle.scan_record.specs.Part.{formAt, recordSize};
+ghost use Rattle.scan_record.specs.Internal.Size.{lengthOf};
+ghost use Rattle.scan_record.specs.Check.{checkFrom, whole, checkRecord};
 use crate::entry::Entry;
 use crate::entry::entry_at;
+use settings::refusals::EARLIER_TIME;
+use settings::refusals::WRONG_LENGTH;
 use settings::reply::Refusal;
 use settings::reply::Reply;
 use settings::types::Form;
@@ -75,13 +79,13 @@ pub fn check_record(bytes: &[u8], digital: usize, analog: usize, last: u64) -> R
 {
     if !is_whole(digital, analog, bytes.len()) {
         return Reply::Refused(Refusal {
-            number: 7,
+            number: WRONG_LENGTH,
             place: 0,
         });
     }
     if get_u64(bytes, 0) < last {
         return Reply::Refused(Refusal {
-            number: 8,
+            number: EARLIER_TIME,
             place: 0,
         });
     }

@@ -3,10 +3,14 @@ ghost use mathlib.Core.Path.{_≡_};
 ghost use Prim.Native.Nat.{_+_, _≤_};
 ghost use lib.ListN.{length};
 ghost use Rattle.settings.specs.Refusals.{refusal};
-ghost use Rattle.scan_record.specs.Entry.{entrySize, digitalWord, analogWord, digitalEntry, analogEntry, entryAt};
-use alarm::step::Reading;
+ghost use Rattle.scan_record.specs.Internal.Size.{entrySize};
+ghost use Rattle.scan_record.specs.Entry.{digitalWord, analogWord, digitalEntry, analogEntry, entryAt};
+use settings::refusals::BAD_REAL;
+use settings::refusals::NOT_A_BIT;
+use settings::refusals::UNKNOWN_COMMAND;
 use settings::reply::Refusal;
 use settings::types::Form;
+use settings::types::Reading;
 use wire::number::get_u32;
 use wire::real::get_real;
 use wire::real::is_bounded;
@@ -44,10 +48,10 @@ fn digital_entry(bytes: &[u8], at: usize, alarm: usize) -> Entry
     let input = bytes[at];
     let word = get_u32(bytes, at + 1);
     if 1 < input {
-        return refuse(9, alarm);
+        return refuse(NOT_A_BIT, alarm);
     }
     if !is_digital_word(word) {
-        return refuse(11, alarm);
+        return refuse(UNKNOWN_COMMAND, alarm);
     }
     Entry::Read(Reading::Digital(input == 1), word, at + 5)
 }
@@ -59,10 +63,10 @@ fn analog_entry(bytes: &[u8], at: usize, alarm: usize) -> Entry
     let x = get_real(bytes, at);
     let word = get_u32(bytes, at + 4);
     if !is_bounded(x) {
-        return refuse(10, alarm);
+        return refuse(BAD_REAL, alarm);
     }
     if !is_analog_word(word) {
-        return refuse(11, alarm);
+        return refuse(UNKNOWN_COMMAND, alarm);
     }
     Entry::Read(Reading::Level(x), word, at + 8)
 }

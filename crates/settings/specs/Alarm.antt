@@ -1,9 +1,49 @@
--- Settings without alarms.
+-- The settings of an alarm, and settings without alarms.
+use Prim.Native.Nat.{ℕ}
+use mathlib.Core.Bool.{Bool}
 use mathlib.Core.List.{List}
 use lib.ListN.{replicate}
+use Rattle.wire.specs.Real.{zeroReal}
+use Rattle.wire.specs.Bits.{bit}
 use Rattle.settings.specs.declared.types.Alarm.{Alarm}
-use Rattle.settings.specs.declared.types.Kind.the-variants.{Digital}
+use Rattle.settings.specs.declared.types.Limits.{Limits}
+use Rattle.settings.specs.declared.types.Kind.{Kind}
+use Rattle.settings.specs.declared.types.Kind.the-variants.{Digital, Analog}
 use Rattle.settings.specs.declared.types.Settings.{Settings}
+
+-- the flags of a digital alarm: bit 0 Condition, 1 AckRequired, 2 Latched
+abbrev pub conditionSet : ℕ → Bool
+conditionSet flags = bit flags 0
+
+abbrev pub latched : ℕ → Bool
+latched flags = bit flags 2
+
+-- of an analog alarm: bits 0 to 3 HH, H, L, LL enabled, 4 AckRequired
+abbrev pub onHH : ℕ → Bool
+onHH flags = bit flags 0
+
+abbrev pub onH : ℕ → Bool
+onH flags = bit flags 1
+
+abbrev pub onL : ℕ → Bool
+onL flags = bit flags 2
+
+abbrev pub onLL : ℕ → Bool
+onLL flags = bit flags 3
+
+abbrev pub ackRequired : Kind → ℕ → Bool
+ackRequired (Digital severity) flags = bit flags 1
+ackRequired (Analog limits severities period) flags = bit flags 4
+
+-- the REALs of an analog alarm and its ROCPeriod; a digital alarm has none, and they count as 0
+abbrev pub limitsOf : Kind → Limits
+limitsOf (Digital severity) =
+    record { hh = zeroReal; h = zeroReal; l = zeroReal; ll = zeroReal; deadband = zeroReal; rocpos = zeroReal; rocneg = zeroReal }
+limitsOf (Analog limits severities period) = limits
+
+abbrev pub periodOf : Kind → ℕ
+periodOf (Digital severity) = 0
+periodOf (Analog limits severities period) = period
 
 -- what stands in a place that no alarm has
 abbrev pub blank : Alarm

@@ -2,27 +2,14 @@
 use Prim.Native.Nat.{ℕ}
 use mathlib.Core.Bool.{Bool, not, _&&_, _||_, cond}
 use lib.Dec.{leb}
-use lib.Ieee.{Float, binary32, ofBits, lt, le, add, sub}
-use Rattle.wire.specs.Real.{bounded}
-use Rattle.wire.specs.Bits.{bit}
+use lib.Ieee.{Float, binary32, lt, le, add, sub}
+use Rattle.wire.specs.Real.{zeroReal, bounded}
+use Rattle.settings.specs.Alarm.{onHH, onH, onL, onLL}
 use Rattle.settings.specs.declared.types.Limits.{Limits}
-
--- the flags of an analog alarm: levels enabled
-abbrev pub onHH : ℕ → Bool
-onHH flags = bit flags 0
-
-abbrev pub onH : ℕ → Bool
-onH flags = bit flags 1
-
-abbrev pub onL : ℕ → Bool
-onL flags = bit flags 2
-
-abbrev pub onLL : ℕ → Bool
-onLL flags = bit flags 3
 
 -- at least 0, which -0.0 is
 abbrev pub nonNegative : Float → Bool
-nonNegative x = le (ofBits binary32 0) x
+nonNegative x = le zeroReal x
 
 -- each REAL finite and bounded, whether its level is enabled or not; Deadband and both rate limits at least 0
 unfoldable pub limitsInRange : Limits → Bool
@@ -35,12 +22,9 @@ limitsInRange g =
 abbrev pub durationInRange : ℕ → Bool
 durationInRange d = leb d 2147483647
 
-abbrev pub periodInRange : ℕ → Bool
-periodInRange p = leb p 3600000
-
--- rule 4 of an analog record
+-- rule 4 of an analog record; ROCPeriod is at most 3,600,000
 unfoldable pub inRange : Limits → ℕ → ℕ → Bool
-inRange g period duration = limitsInRange g && periodInRange period && durationInRange duration
+inRange g period duration = limitsInRange g && leb period 3600000 && durationInRange duration
 
 -- a lower level stands strictly below an upper one, where both are enabled
 abbrev pub ordered : Bool → Float → Bool → Float → Bool

@@ -47,6 +47,12 @@ pub enum Form {
     Analog,
 }
 
+// A decoded reading.
+pub enum Reading {
+    Digital(bool),
+    Level(f32),
+}
+
 // The settings of a bank: the digital alarms, then the analog ones, in number order from 1 at place 0. The rest of the
 // array is blank.
 pub struct Settings {

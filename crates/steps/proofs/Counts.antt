@@ -1,33 +1,39 @@
 -- How many events a scan has, by its event words. Assumes nothing.
 use mathlib.Core.Path.{_≡_, refl}
 use mathlib.Core.List.{List}
-use Prim.Native.Nat.{ℕ, zero, suc, _^_, _≤_, _<_}
+use Prim.Native.Nat.{ℕ, zero, suc, _+_, _^_, _≤_, _<_}
 use native.Mathlib.Omega.{arith}
 use lib.Arith.{bin-ind}
 use lib.Count.{ones, ones-step}
 use lib.ListN.{getD, replicate}
 use Rattle.wire.proofs.WordLaws.{word-lt}
 use Rattle.wire.proofs.Laws.{below}
+use Rattle.settings.specs.Alarm.{blank}
 use Rattle.settings.specs.declared.types.Alarm.{Alarm}
 use Rattle.settings.specs.declared.types.Kind.{Kind}
 use Rattle.settings.specs.declared.types.Kind.the-variants.{Digital, Analog}
-use Rattle.alarm.specs.Internal.Held.{lookDigital, lookAnalog}
+use Rattle.alarm.specs.Internal.Held.{freshState, lookDigital, lookAnalog}
 use Rattle.alarm.specs.Internal.Digital.{digitalEvents, digitalStep}
 use Rattle.alarm.specs.Internal.Analog.{analogEvents, analogStep}
 use Rattle.alarm.specs.Internal.Step.{stepKind}
 use Rattle.alarm.specs.declared.state.State.{State}
-use Rattle.alarm.specs.declared.step.Reading.{Reading}
-use Rattle.alarm.specs.declared.step.Reading.the-variants.{Digital as Bit, Level}
-use Rattle.steps.specs.Internal.Plan.{stepPart, stepAt, planOf, countOf}
+use Rattle.settings.specs.declared.types.Reading.{Reading}
+use Rattle.scan_record.specs.declared.entry.Entry.{Entry}
+use Rattle.scan_record.specs.declared.entry.Entry.the-variants.{Read, Refused}
+use Rattle.scan_record.specs.Part.{formAt, offsetOf}
+use Rattle.scan_record.specs.Entry.{entryAt}
+use Rattle.steps.specs.Internal.Plan.{stepEntry, stepPart, stepAt, planOf, countOf}
 use Rattle.steps.proofs.Alarms.{placed-below}
 
 -- an event word has 24 bits
-step-word : (k : Kind) (flags duration : ℕ) (s : State) (x : Reading) (word time : ℕ) → stepKind k flags duration s x word time .events < 2 ^ 24
+step-word : (k : Kind) (a : Alarm) (s : State) (x : Reading) (word time : ℕ) → stepKind k a s x word time .events < 2 ^ 24
 unfolding stepKind digitalStep analogStep
-step-word (Digital severity) flags duration s (Bit input) word time = omega (arith, word-lt (digitalEvents flags duration input word time (lookDigital s)))
-step-word (Digital severity) flags duration s (Level x) word time = omega arith
-step-word (Analog g severities period) flags duration s (Bit input) word time = omega arith
-step-word (Analog g severities period) flags duration s (Level x) word time = omega (arith, word-lt (analogEvents flags duration g period x word time (lookAnalog s)))
+step-word (Digital severity) a s x word time = omega (arith, word-lt (digitalEvents a x word time (lookDigital s)))
+step-word (Analog g severities period) a s x word time = omega (arith, word-lt (analogEvents a x word time (lookAnalog s)))
+
+entry-word : (e : Entry) (a : Alarm) (s : State) (time : ℕ) → stepEntry e a s time .events < 2 ^ 24
+entry-word (Read x word next) a s time = step-word (a .kind) a s x word time
+entry-word (Refused r) a s time = omega arith
 
 -- a word without bits is 0
 ones-none : (word : ℕ) → ones word ≡ 0 → word ≡ 0
@@ -47,4 +53,4 @@ module _ (rec : List ℕ) (digital : ℕ) (alarms : List Alarm) (states : List S
 
   pub word-small : (n i : ℕ) → n ≤ 24 → i < n → getD (planOf rec digital n alarms states time .events) i 0 < 2 ^ 24
   unfolding stepPart
-  word-small n i m h = rw (word-at n i m h) (step-word _ _ _ _ _ _ _)
+  word-small n i m h = rw (word-at n i m h) (entry-word (entryAt (formAt digital i) rec (offsetOf digital i) (i + 1)) (getD alarms i blank) (getD states i freshState) time)

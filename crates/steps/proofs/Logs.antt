@@ -8,7 +8,7 @@ use native.Mathlib.Numerals.{add-one}
 use native.Mathlib.Omega.{arith}
 use borrow.Author.Tests.{eqb-true, eqb-false}
 use lib.Dec.{eqb}
-use lib.Ieee.{Float, nan}
+use lib.Ieee.{nan}
 use lib.Count.{ones, ones-step, ones-le}
 use lib.ListN.{length, getD, length-append}
 use lib.Seq.{sets}
@@ -19,7 +19,7 @@ use Rattle.wire.proofs.Laws.{sets-append, getD-within}
 use Rattle.settings.specs.Alarm.{blank}
 use Rattle.settings.specs.declared.types.Alarm.{Alarm}
 use Rattle.settings.specs.declared.types.Kind.{Kind}
-use Rattle.settings.specs.declared.types.Limits.{Limits}
+use Rattle.settings.specs.declared.types.Reading.{Reading}
 use Rattle.alarm.specs.Internal.Held.{freshState, lookDigital, lookAnalog}
 use Rattle.alarm.specs.Internal.Digital.{digitalEvents, digitalStep}
 use Rattle.alarm.specs.Internal.Analog.{analogEvents, analogStep}
@@ -174,17 +174,13 @@ module _ (alarms : List Alarm) (states : List State) (events : List ℕ) (time :
 
 -- ---- the events of an alarm's step, as the marked cases have them
 
-module _ (number : ℕ) (a : Alarm) (s after : State) (flags duration word time : ℕ) where
-  pub digital-log : (input : Bool)
-      → alarmEvents number a after (digitalStep flags duration s input word time .events) time
-      ≡ eventsFrom number (a .kind) (bit (after .flags) 1) time 0 (digitalEvents flags duration input word time (lookDigital s))
+module _ (number : ℕ) (a : Alarm) (s after : State) (x : Reading) (word time : ℕ) where
+  pub digital-log : alarmEvents number a after (digitalStep a s x word time .events) time
+      ≡ eventsFrom number (a .kind) (bit (after .flags) 1) time 0 (digitalEvents a x word time (lookDigital s))
   unfolding digitalStep
-  digital-log input =
-      events-bits number (a .kind) (bit (after .flags) 1) time 24 0 (digitalEvents flags duration input word time (lookDigital s)) (omega arith)
+  digital-log = events-bits number (a .kind) (bit (after .flags) 1) time 24 0 (digitalEvents a x word time (lookDigital s)) (omega arith)
 
-  pub analog-log : (g : Limits) (period : ℕ) (x : Float)
-      → alarmEvents number a after (analogStep flags duration g period s x word time .events) time
-      ≡ eventsFrom number (a .kind) (bit (after .flags) 1) time 0 (analogEvents flags duration g period x word time (lookAnalog s))
+  pub analog-log : alarmEvents number a after (analogStep a s x word time .events) time
+      ≡ eventsFrom number (a .kind) (bit (after .flags) 1) time 0 (analogEvents a x word time (lookAnalog s))
   unfolding analogStep
-  analog-log g period x =
-      events-bits number (a .kind) (bit (after .flags) 1) time 24 0 (analogEvents flags duration g period x word time (lookAnalog s)) (omega arith)
+  analog-log = events-bits number (a .kind) (bit (after .flags) 1) time 24 0 (analogEvents a x word time (lookAnalog s)) (omega arith)

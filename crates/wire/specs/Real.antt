@@ -9,6 +9,9 @@ use Rattle.wire.specs.Number.{number}
 abbrev pub realAt : List ℕ → ℕ → Float
 realAt s at = ofBits binary32 (number s at 4)
 
+abbrev pub zeroReal : Float
+zeroReal = ofBits binary32 0
+
 -- the largest magnitude, the REAL nearest 10^15: 999,999,986,991,104
 unfoldable pub largest : Float
 largest = ofBits binary32 0x58635FA9

@@ -3,19 +3,18 @@ use Prim.Native.Nat.{ℕ, _-_}
 use mathlib.Core.Bool.{Bool, true, false, not, _&&_, _||_, cond}
 use mathlib.Core.List.{List, [], _∷_, _++_}
 use lib.Dec.{leb}
-use lib.ListN.{getD}
-use lib.Ieee.{Float}
 use Rattle.wire.specs.Bits.{bit}
 use Rattle.wire.specs.Internal.Words.{wordOf}
+use Rattle.settings.specs.Alarm.{periodOf}
+use Rattle.settings.specs.declared.types.Alarm.{Alarm}
+use Rattle.settings.specs.declared.types.Reading.{Reading}
 use Rattle.history.specs.Internal.Condition.{Told, alarmAfter, unackedAfter, acknowledges, returns, activates}
-use Rattle.settings.specs.declared.types.Limits.{Limits}
-use Rattle.level.specs.Level.{metBits, freesBits}
+use Rattle.level.specs.Level.{met, frees}
 use Rattle.level.specs.Rate.{sampleAfter}
 use Rattle.level.specs.declared.rate.Sample.{Sample}
-use Rattle.condition.specs.Internal.Outcome.{ackBits, toldOf}
-use Rattle.condition.specs.Command.{faults}
+use Rattle.condition.specs.Command.{acks, faults}
 use Rattle.condition.specs.Internal.Mode.{disabledAfter, suppressedAfter, wholeEvents}
-use Rattle.alarm.specs.Internal.Held.{Cell, Six, HH, H, L, LL, ROCPos, ROCNeg, Side, High, Low, place, AnalogHeld, lookAnalog, hideAnalog}
+use Rattle.alarm.specs.Internal.Held.{Cell, Six, HH, H, L, LL, ROCPos, ROCNeg, Side, High, Low, ofSix, AnalogHeld, lookAnalog, hideAnalog}
 use Rattle.alarm.specs.declared.state.State.{State}
 use Rattle.alarm.specs.declared.state.Stepped.{Stepped}
 
@@ -28,15 +27,15 @@ abbrev pub sideAlarm : (Six → Bool) → Side → Bool
 sideAlarm before High = before HH || before H
 sideAlarm before Low = before L || before LL
 
-module _ (flags duration : ℕ) (g : Limits) (period : ℕ) (x : Float) (word time : ℕ) (a : AnalogHeld) where
+module _ (a : Alarm) (x : Reading) (word time : ℕ) (h : AnalogHeld) where
   abbrev pub analogEnabled : Bool
-  analogEnabled = not (disabledAfter word (a .disabled))
+  analogEnabled = not (disabledAfter word (h .disabled))
 
   abbrev pub analogSample : Sample
-  analogSample = sampleAfter period analogEnabled (a .held) time x (a .sample)
+  analogSample = sampleAfter (periodOf (a .kind)) analogEnabled (h .held) time x (h .sample)
 
   abbrev pub analogMet : Six → Bool
-  analogMet c = getD (metBits flags g period x (analogSample .rate)) (place c) false
+  analogMet c = met a (ofSix c) x (analogSample .rate)
 
   abbrev pub sideMet : Side → Bool
   sideMet High = analogMet HH || analogMet H
@@ -44,11 +43,11 @@ module _ (flags duration : ℕ) (g : Limits) (period : ℕ) (x : Float) (word ti
 
   -- when the run of a side began that this scan goes on with, or begins
   abbrev pub runStart : Side → ℕ
-  runStart s = cond (a .run s .on) (a .run s .start) time
+  runStart s = cond (h .run s .on) (h .run s .start) time
 
   -- a level is ready where its side's run has lasted, or its side had a condition in alarm; a rate always
   abbrev pub sideReady : Side → Bool
-  sideReady s = leb duration (time - runStart s) || sideAlarm (λ c. a .cell c .alarm) s
+  sideReady s = leb (a .duration) (time - runStart s) || sideAlarm (λ c. h .cell c .alarm) s
 
   abbrev pub analogReady : Six → Bool
   analogReady HH = sideReady High
@@ -60,22 +59,29 @@ module _ (flags duration : ℕ) (g : Limits) (period : ℕ) (x : Float) (word ti
 
   abbrev pub analogTold : Six → Told
   analogTold c =
-      toldOf analogEnabled (analogMet c) (getD (freesBits g x) (place c) false) (analogReady c) (getD (ackBits word (a .previous)) (place c) false) (analogRequired flags)
+      record {
+        enabled = analogEnabled;
+        met = analogMet c;
+        frees = frees a (ofSix c) x false;
+        ready = analogReady c;
+        ack = acks word (h .previous) (ofSix c);
+        required = analogRequired (a .flags);
+      }
 
   abbrev pub cellAfter : Six → Cell
   cellAfter c =
       record {
-        alarm = alarmAfter (analogTold c) (a .cell c .alarm);
-        unacked = unackedAfter (analogTold c) (a .cell c .alarm) (a .cell c .unacked);
+        alarm = alarmAfter (analogTold c) (h .cell c .alarm);
+        unacked = unackedAfter (analogTold c) (h .cell c .alarm) (h .cell c .unacked);
         row = analogEnabled && analogMet c;
-        start = cond (a .cell c .row) (a .cell c .start) time;
+        start = cond (h .cell c .row) (h .cell c .start) time;
       }
 
   abbrev pub analogAfter : AnalogHeld
   analogAfter =
       record {
-        disabled = disabledAfter word (a .disabled);
-        suppressed = suppressedAfter word (a .suppressed);
+        disabled = disabledAfter word (h .disabled);
+        suppressed = suppressedAfter word (h .suppressed);
         faulted = faults word;
         held = analogEnabled;
         previous = word;
@@ -87,18 +93,18 @@ module _ (flags duration : ℕ) (g : Limits) (period : ℕ) (x : Float) (word ti
   -- events 6, 7, 8 of a condition
   abbrev pub cellEvents : Six → List Bool → List Bool
   cellEvents c rest =
-      acknowledges (analogTold c) (a .cell c .unacked) ∷ returns (analogTold c) (a .cell c .alarm) ∷ activates (analogTold c) (a .cell c .alarm) ∷ rest
+      acknowledges (analogTold c) (h .cell c .unacked) ∷ returns (analogTold c) (h .cell c .alarm) ∷ activates (analogTold c) (h .cell c .alarm) ∷ rest
 
   -- the events in order
   abbrev pub analogEvents : List Bool
   analogEvents =
-      wholeEvents (a .disabled) (a .suppressed) word (a .previous)
+      wholeEvents (h .disabled) (h .suppressed) word (h .previous)
       ++ cellEvents HH (cellEvents H (cellEvents L (cellEvents LL (cellEvents ROCPos (cellEvents ROCNeg [])))))
 
 -- on the packed state
-unfoldable pub analogStep : ℕ → ℕ → Limits → ℕ → State → Float → ℕ → ℕ → Stepped
-analogStep flags duration g period s x word time =
+unfoldable pub analogStep : Alarm → State → Reading → ℕ → ℕ → Stepped
+analogStep a s x word time =
     record {
-      state = hideAnalog (analogAfter flags duration g period x word time (lookAnalog s));
-      events = wordOf (analogEvents flags duration g period x word time (lookAnalog s));
+      state = hideAnalog (analogAfter a x word time (lookAnalog s));
+      events = wordOf (analogEvents a x word time (lookAnalog s));
     }

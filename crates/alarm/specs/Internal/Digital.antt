@@ -1,36 +1,35 @@
 -- One scan of a digital alarm, in document 01's order.
 use Prim.Native.Nat.{ℕ, _-_}
-use mathlib.Core.Bool.{Bool, not, _&&_, _||_, cond, Bool·beq}
+use mathlib.Core.Bool.{Bool, not, _&&_, cond}
 use mathlib.Core.List.{List, [], _∷_, _++_}
 use lib.Dec.{leb}
 use Rattle.wire.specs.Bits.{bit}
+use Rattle.wire.specs.Real.{zeroReal}
 use Rattle.wire.specs.Internal.Words.{wordOf}
+use Rattle.settings.specs.Condition.{In}
+use Rattle.settings.specs.declared.types.Alarm.{Alarm}
+use Rattle.settings.specs.declared.types.Kind.the-variants.{Digital}
+use Rattle.settings.specs.declared.types.Reading.{Reading}
 use Rattle.history.specs.Internal.Condition.{Told, alarmAfter, unackedAfter, acknowledges, returns, activates}
 use Rattle.condition.specs.Command.{resets, acksAll, faults}
 use Rattle.condition.specs.Internal.Mode.{disabledAfter, suppressedAfter, wholeEvents}
-use Rattle.condition.specs.Internal.Outcome.{toldOf}
+use Rattle.level.specs.Level.{met, frees}
 use Rattle.alarm.specs.Internal.Held.{DigitalHeld, lookDigital, hideDigital}
 use Rattle.alarm.specs.declared.state.State.{State}
 use Rattle.alarm.specs.declared.state.Stepped.{Stepped}
 
--- the flags of a digital alarm
-abbrev pub conditionSet : ℕ → Bool
-conditionSet flags = bit flags 0
+-- the settings of a digital alarm that its step looks at
+abbrev pub digitalOf : ℕ → ℕ → Alarm
+digitalOf flags duration = record { flags = flags; duration = duration; kind = Digital 0 }
 
+-- AckRequired
 abbrev pub digitalRequired : ℕ → Bool
 digitalRequired flags = bit flags 1
 
-abbrev pub latched : ℕ → Bool
-latched flags = bit flags 2
-
-module _ (flags duration : ℕ) (input : Bool) (word time : ℕ) (d : DigitalHeld) where
-  -- met when In equals Condition
+module _ (a : Alarm) (x : Reading) (word time : ℕ) (d : DigitalHeld) where
+  -- a digital alarm has no rate
   abbrev pub digitalMet : Bool
-  digitalMet = Bool·beq input (conditionSet flags)
-
-  -- not met, cleared where Latched is clear or a reset is commanded in this scan
-  abbrev pub digitalFrees : Bool
-  digitalFrees = not (latched flags) || resets word (d .previous)
+  digitalMet = met a In x zeroReal
 
   -- the run is the row of scans that met the condition
   abbrev pub digitalStart : ℕ
@@ -38,7 +37,14 @@ module _ (flags duration : ℕ) (input : Bool) (word time : ℕ) (d : DigitalHel
 
   abbrev pub digitalTold : Told
   digitalTold =
-      toldOf (not (disabledAfter word (d .disabled))) digitalMet digitalFrees (leb duration (time - digitalStart)) (acksAll word (d .previous)) (digitalRequired flags)
+      record {
+        enabled = not (disabledAfter word (d .disabled));
+        met = digitalMet;
+        frees = frees a In x (resets word (d .previous));
+        ready = leb (a .duration) (time - digitalStart);
+        ack = acksAll word (d .previous);
+        required = digitalRequired (a .flags);
+      }
 
   abbrev pub digitalAfter : DigitalHeld
   digitalAfter =
@@ -62,9 +68,9 @@ module _ (flags duration : ℕ) (input : Bool) (word time : ℕ) (d : DigitalHel
       ++ (acknowledges digitalTold (d .cell .unacked) ∷ returns digitalTold (d .cell .alarm) ∷ activates digitalTold (d .cell .alarm) ∷ [])
 
 -- on the packed state
-unfoldable pub digitalStep : ℕ → ℕ → State → Bool → ℕ → ℕ → Stepped
-digitalStep flags duration s input word time =
+unfoldable pub digitalStep : Alarm → State → Reading → ℕ → ℕ → Stepped
+digitalStep a s x word time =
     record {
-      state = hideDigital s (digitalAfter flags duration input word time (lookDigital s));
-      events = wordOf (digitalEvents flags duration input word time (lookDigital s));
+      state = hideDigital s (digitalAfter a x word time (lookDigital s));
+      events = wordOf (digitalEvents a x word time (lookDigital s));
     }

@@ -4,7 +4,8 @@ use mathlib.Core.Bool.{Bool, false}
 use mathlib.Core.List.{List, [], _∷_}
 use Rattle.wire.specs.Bits.{bit}
 use Rattle.wire.specs.Internal.Words.{wordOf}
-use Rattle.level.specs.Level.{zeroReal}
+use Rattle.wire.specs.Real.{zeroReal}
+use Rattle.settings.specs.Condition as Condition
 use Rattle.level.specs.declared.rate.Sample.{Sample}
 use Rattle.alarm.specs.declared.state.State.{State}
 
@@ -78,6 +79,15 @@ place L = 2
 place LL = 3
 place ROCPos = 4
 place ROCNeg = 5
+
+-- the condition that it is
+abbrev pub ofSix : Six → Condition.Condition
+ofSix HH = Condition.HH
+ofSix H = Condition.H
+ofSix L = Condition.L
+ofSix LL = Condition.LL
+ofSix ROCPos = Condition.ROCPos
+ofSix ROCNeg = Condition.ROCNeg
 
 pub record AnalogHeld : Type 0 where
   pub disabled : Bool

@@ -3,11 +3,11 @@ use Prim.Native.Nat.{ℕ, _-_}
 use mathlib.Core.Bool.{Bool, true, _||_, cond}
 use mathlib.Core.List.{List, [], _∷_}
 use lib.Dec.{leb}
-use lib.Ieee.{Float}
 use Rattle.wire.specs.Bits.{bit}
 use Rattle.wire.specs.Internal.Words.{wordOf, spread}
 use Rattle.settings.specs.declared.types.Limits.{Limits}
-use Rattle.level.specs.Level.{freesBits}
+use Rattle.settings.specs.declared.types.Reading.{Reading}
+use Rattle.level.specs.Internal.Bits.{analogOf, freesBits}
 use Rattle.level.specs.Rate.{sampleAfter}
 use Rattle.level.specs.declared.rate.Sample.{Sample}
 use Rattle.condition.specs.Internal.Outcome.{ackBits}
@@ -43,14 +43,14 @@ startsAfter s time =
     }
 
 -- the sample after a scan
-unfoldable pub resampled : State → ℕ → Bool → Float → ℕ → Sample
+unfoldable pub resampled : State → ℕ → Bool → Reading → ℕ → Sample
 resampled s period enabled x time =
     sampleAfter period enabled (bit (s .flags) 3) time x (record { value = s .sample; rate = s .rate; at = s .sampled })
 
 -- the conditions of a state whose runs begin where this scan's do
-unfoldable pub decided : ℕ → ℕ → Limits → State → Bool → ℕ → Float → ℕ → ℕ → Cells
+unfoldable pub decided : ℕ → ℕ → Limits → State → Bool → ℕ → Reading → ℕ → ℕ → Cells
 decided flags duration g s enabled met x word time =
-    cellsOf (s .flags) enabled met (wordOf (spread (freesBits g x))) (wordOf (spread (readyBits (s .flags) (s .high) (s .low) duration time)))
+    cellsOf (s .flags) enabled met (wordOf (spread (freesBits (analogOf 0 0 g 0) x))) (wordOf (spread (readyBits (s .flags) (s .high) (s .low) duration time)))
     (wordOf (spread (ackBits word (s .previous)))) (bit flags 4)
 
 -- an analog alarm at rest, with the sample after the scan: every start is this scan's, and there are no events

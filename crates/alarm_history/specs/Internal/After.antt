@@ -1,22 +1,22 @@
 -- What the step keeps of an alarm after a list of scans, scan by scan; and the same read off the scans.
-use Prim.Native.Nat.{ℕ}
+use Prim.Native.Nat.{ℕ, _-_, min}
 use mathlib.Core.List.{List, [], _∷_}
-use mathlib.Core.Bool.{Bool, false, _&&_}
-use lib.Ieee.{Float}
-use Rattle.history.specs.Past.{holds, rowStart}
-use Rattle.history.specs.Internal.Condition.{kept, acknowledges, returns, activates}
+use mathlib.Core.Bool.{Bool, false, not, _&&_, cond}
+use Rattle.settings.specs.Condition as Condition
+use Rattle.settings.specs.Condition.{Condition, In}
+use Rattle.settings.specs.declared.types.Alarm.{Alarm}
+use Rattle.history.specs.Past.{Fact, holds, rowStart}
+use Rattle.history.specs.Demand.{count, activation, answer, return}
+use Rattle.history.specs.Internal.Condition.{Kept, kept, acknowledges, returns, activates}
 use Rattle.condition.specs.Command.{countResets}
-use Rattle.condition.specs.Internal.Mark.{Marks, marksAfter, noMarks}
-use Rattle.settings.specs.declared.types.Limits.{Limits}
-use Rattle.level.specs.Level.{zeroReal}
-use Rattle.alarm.specs.Internal.Held.{Six, DigitalHeld, AnalogHeld}
+use Rattle.condition.specs.Internal.Mark.{Marks, Turn, marksAfter, noMarks, timeStampAfter}
+use Rattle.level.specs.Rate.{noSample}
+use Rattle.alarm.specs.Internal.Held.{Six, ofSix, Side, High, Low, DigitalHeld, AnalogHeld}
 use Rattle.alarm.specs.Internal.Digital.{digitalRequired, digitalStart, digitalTold, digitalAfter}
 use Rattle.alarm.specs.Internal.Analog.{analogRequired, analogTold, cellAfter, analogAfter}
-use Rattle.alarm_history.specs.Scans.{Scan, previous, disabledIn, suppressedIn, faultedIn, enabled}
-use Rattle.alarm_history.specs.Digital as Digital
-use Rattle.alarm_history.specs.Digital.{In, digitalFacts}
-use Rattle.alarm_history.specs.Analog as Analog
-use Rattle.alarm_history.specs.Analog.{analogFacts, sampleIn}
+use Rattle.alarm_history.specs.Scans.{Scan, previous, disabledIn, suppressedIn, faultedIn, enabled, countReset}
+use Rattle.alarm_history.specs.Facts.{sampleIn, metIn, freesIn, run, facts}
+use Rattle.alarm_history.specs.Stamps.{ownStart, alarmStamp, ackStamp, returnStamp}
 
 -- a fresh alarm: enabled, not suppressed, not in alarm, acknowledged
 abbrev pub freshDigital : DigitalHeld
@@ -31,74 +31,139 @@ freshAnalog =
       faulted = false;
       held = false;
       previous = 0;
-      sample = record { value = zeroReal; rate = zeroReal; at = 0 };
+      sample = noSample;
       run = λ s. record { on = false; start = 0 };
       cell = λ c. record { alarm = false; unacked = false; row = false; start = 0 };
     }
 
-unfoldable pub digitalRun : ℕ → ℕ → List (Scan Bool) → DigitalHeld
-digitalRun flags duration [] = freshDigital
-digitalRun flags duration (s ∷ past) = digitalAfter flags duration (s .reading) (s .word) (s .time) (digitalRun flags duration past)
+-- how long a run has lasted, capped at MinDuration; 0 without a run
+abbrev pub elapsed : ℕ → Bool → ℕ → ℕ → ℕ
+elapsed duration on start time = cond on (min duration (time - start)) 0
 
-unfoldable pub analogRun : ℕ → ℕ → Limits → ℕ → List (Scan Float) → AnalogHeld
-analogRun flags duration g period [] = freshAnalog
-analogRun flags duration g period (s ∷ past) =
-    analogAfter flags duration g period (s .reading) (s .word) (s .time) (analogRun flags duration g period past)
+-- the count reset stamp, scan by scan, by the previous word that is kept
+unfoldable pub resetKept : (List Scan → ℕ) → List Scan → ℕ
+resetKept kept [] = 0
+resetKept kept (s ∷ past) = timeStampAfter (countResets (s .word) (kept past)) (s .time) (resetKept kept past)
 
--- read off the scans
-abbrev pub digitalFrom : ℕ → ℕ → List (Scan Bool) → DigitalHeld
-digitalFrom flags duration scans =
-    record {
-      disabled = disabledIn scans;
-      suppressed = suppressedIn scans;
-      faulted = faultedIn scans;
-      previous = previous scans;
-      cell = record {
-        alarm = kept (digitalFacts flags duration) scans In .alarm;
-        unacked = kept (digitalFacts flags duration) scans In .unacked;
-        row = holds (Digital.run flags duration) scans;
-        start = rowStart (λ x. x .time) (Digital.run flags duration) scans;
-      };
-    }
+-- the level whose run is that of a side
+abbrev pub levelOf : Side → Condition
+levelOf High = Condition.HH
+levelOf Low = Condition.L
 
-abbrev pub analogFrom : ℕ → ℕ → Limits → ℕ → List (Scan Float) → AnalogHeld
-analogFrom flags duration g period scans =
-    record {
-      disabled = disabledIn scans;
-      suppressed = suppressedIn scans;
-      faulted = faultedIn scans;
-      held = holds enabled scans;
-      previous = previous scans;
-      sample = sampleIn flags duration g period scans;
-      run = λ s. record { on = holds (Analog.run flags duration g period s) scans; start = rowStart (λ x. x .time) (Analog.run flags duration g period s) scans };
-      cell = λ c.
-          record {
-            alarm = kept (analogFacts flags duration g period) scans c .alarm;
-            unacked = kept (analogFacts flags duration g period) scans c .unacked;
-            row = holds (λ s past. enabled s past && Analog.met flags duration g period c s past) scans;
-            start = rowStart (λ x. x .time) (λ s past. enabled s past && Analog.met flags duration g period c s past) scans;
-          };
-    }
+-- kinds 1 to 5 as event bits, by what was disabled and suppressed and what is, and a count reset; then a free bit
+abbrev pub changes : Bool → Bool → Bool → Bool → Bool → List Bool
+changes wasDisabled wasSuppressed disabled suppressed reset =
+    (disabled && not wasDisabled) ∷ (not disabled && wasDisabled) ∷ (suppressed && not wasSuppressed) ∷ (not suppressed && wasSuppressed) ∷ reset ∷ false ∷ []
 
--- ---- counts and stamps, from the events of each scan
+abbrev pub wholeBits : Scan → List Scan → List Bool
+wholeBits s past = changes (disabledIn past) (suppressedIn past) (disabledIn (s ∷ past)) (suppressedIn (s ∷ past)) (countReset s past)
 
-abbrev pub digitalMarksAfter : ℕ → ℕ → Scan Bool → DigitalHeld → Marks → Marks
-digitalMarksAfter flags duration s d m =
-    let t = digitalTold flags duration (s .reading) (s .word) (s .time) d in
-    marksAfter (countResets (s .word) (d .previous)) (acknowledges t (d .cell .unacked)) (returns t (d .cell .alarm)) (activates t (d .cell .alarm))
-    (digitalRequired flags) (digitalStart flags duration (s .reading) (s .word) (s .time) d) (s .time) m
+-- kinds 6, 7, 8 of a condition
+abbrev pub conditionBits : Alarm → Scan → List Scan → Condition → List Bool → List Bool
+conditionBits a s past c rest = answer (facts a) c s past ∷ return (facts a) c s past ∷ activation (facts a) c s past ∷ rest
 
-unfoldable pub digitalMarks : ℕ → ℕ → List (Scan Bool) → Marks
-digitalMarks flags duration [] = noMarks
-digitalMarks flags duration (s ∷ past) = digitalMarksAfter flags duration s (digitalRun flags duration past) (digitalMarks flags duration past)
+module _ (a : Alarm) where
+  unfoldable pub digitalRun : List Scan → DigitalHeld
+  digitalRun [] = freshDigital
+  digitalRun (s ∷ past) = digitalAfter a (s .reading) (s .word) (s .time) (digitalRun past)
 
-abbrev pub analogMarksAfter : ℕ → ℕ → Limits → ℕ → Scan Float → AnalogHeld → Six → Marks → Marks
-analogMarksAfter flags duration g period s a c m =
-    let t = analogTold flags duration g period (s .reading) (s .word) (s .time) a c in
-    marksAfter (countResets (s .word) (a .previous)) (acknowledges t (a .cell c .unacked)) (returns t (a .cell c .alarm)) (activates t (a .cell c .alarm))
-    (analogRequired flags) (cellAfter flags duration g period (s .reading) (s .word) (s .time) a c .start) (s .time) m
+  unfoldable pub analogRun : List Scan → AnalogHeld
+  analogRun [] = freshAnalog
+  analogRun (s ∷ past) = analogAfter a (s .reading) (s .word) (s .time) (analogRun past)
 
-unfoldable pub analogMarks : ℕ → ℕ → Limits → ℕ → List (Scan Float) → Six → Marks
-analogMarks flags duration g period [] c = noMarks
-analogMarks flags duration g period (s ∷ past) c =
-    analogMarksAfter flags duration g period s (analogRun flags duration g period past) c (analogMarks flags duration g period past c)
+  -- ---- read off the scans
+
+  -- what each condition keeps
+  abbrev pub keptIn : List Scan → Condition → Kept
+  keptIn = kept (facts a) (freesIn a)
+
+  -- enabled scans that met the condition itself
+  abbrev pub own : Condition → Fact Scan
+  own c s past = enabled s past && metIn a c s past
+
+  abbrev pub digitalFrom : List Scan → DigitalHeld
+  digitalFrom scans =
+      record {
+        disabled = disabledIn scans;
+        suppressed = suppressedIn scans;
+        faulted = faultedIn scans;
+        previous = previous scans;
+        cell = record {
+          alarm = keptIn scans In .alarm;
+          unacked = keptIn scans In .unacked;
+          row = holds (own In) scans;
+          start = rowStart (λ x. x .time) (own In) scans;
+        };
+      }
+
+  abbrev pub analogFrom : List Scan → AnalogHeld
+  analogFrom scans =
+      record {
+        disabled = disabledIn scans;
+        suppressed = suppressedIn scans;
+        faulted = faultedIn scans;
+        held = holds enabled scans;
+        previous = previous scans;
+        sample = sampleIn a scans;
+        run = λ s. record { on = holds (run a (levelOf s)) scans; start = rowStart (λ x. x .time) (run a (levelOf s)) scans };
+        cell = λ c.
+            record {
+              alarm = keptIn scans (ofSix c) .alarm;
+              unacked = keptIn scans (ofSix c) .unacked;
+              row = holds (own (ofSix c)) scans;
+              start = rowStart (λ x. x .time) (own (ofSix c)) scans;
+            };
+      }
+
+  -- ---- counts and stamps, from what each scan did
+
+  abbrev pub digitalTurn : Scan → DigitalHeld → Turn
+  digitalTurn s d =
+      let t = digitalTold a (s .reading) (s .word) (s .time) d in
+      record {
+        reset = countResets (s .word) (d .previous);
+        acknowledged = acknowledges t (d .cell .unacked);
+        returned = returns t (d .cell .alarm);
+        activated = activates t (d .cell .alarm);
+        required = digitalRequired (a .flags);
+        start = digitalStart a (s .reading) (s .word) (s .time) d;
+        time = s .time;
+      }
+
+  unfoldable pub digitalMarks : List Scan → Marks
+  digitalMarks [] = noMarks
+  digitalMarks (s ∷ past) = marksAfter (digitalTurn s (digitalRun past)) (digitalMarks past)
+
+  abbrev pub analogTurn : Scan → AnalogHeld → Six → Turn
+  analogTurn s h c =
+      let t = analogTold a (s .reading) (s .word) (s .time) h c in
+      record {
+        reset = countResets (s .word) (h .previous);
+        acknowledged = acknowledges t (h .cell c .unacked);
+        returned = returns t (h .cell c .alarm);
+        activated = activates t (h .cell c .alarm);
+        required = analogRequired (a .flags);
+        start = cellAfter a (s .reading) (s .word) (s .time) h c .start;
+        time = s .time;
+      }
+
+  unfoldable pub analogMarks : List Scan → Six → Marks
+  analogMarks [] c = noMarks
+  analogMarks (s ∷ past) c = marksAfter (analogTurn s (analogRun past) c) (analogMarks past c)
+
+  -- read off the scans: what a scan did to a condition, and what is kept of it
+  abbrev pub turnIn : Condition → Scan → List Scan → Turn
+  turnIn c s past =
+      record {
+        reset = countReset s past;
+        acknowledged = answer (facts a) c s past;
+        returned = return (facts a) c s past;
+        activated = activation (facts a) c s past;
+        required = facts a .required;
+        start = ownStart a c s past;
+        time = s .time;
+      }
+
+  abbrev pub marksIn : Condition → List Scan → Marks
+  marksIn c scans =
+      record { count = count (facts a) scans c; alarm = alarmStamp a c scans; ack = ackStamp a c scans; return = returnStamp a c scans }

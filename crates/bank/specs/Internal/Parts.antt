@@ -4,7 +4,7 @@ use mathlib.Core.List.{List}
 use mathlib.Core.Bool.{cond}
 use lib.Dec.{ltb}
 use lib.ListN.{length}
-use Rattle.settings.specs.Refusals.{refusal}
+use Rattle.settings.specs.Refusals.{eventsTooLong}
 use Rattle.settings.specs.declared.reply.Reply.{Reply}
 use Rattle.settings.specs.declared.reply.Reply.the-variants.{Accepted, Refused as RefusedBy}
 use Rattle.scan_record.specs.Part.{timeOf}
@@ -22,7 +22,7 @@ timeIn rec last = cond (ltb (length rec) 8) last (timeOf rec)
 
 -- 12 where the buffer is too short for 16 bytes an event, or the number of events
 abbrev pub answerFor : ℕ → ℕ → Answer
-answerFor room n = cond (ltb room (16 * n)) (Refused (refusal 12 0)) (Events n)
+answerFor room n = cond (ltb room (16 * n)) (Refused eventsTooLong) (Events n)
 
 -- the check's refusal, or that answer
 abbrev pub replied : Reply → ℕ → ℕ → Answer

@@ -4,7 +4,7 @@ use mathlib.Core.List.{List, _++_}
 use mathlib.Core.Bool.{Bool, cond}
 use lib.Dec.{ltb}
 use lib.ListN.{length, drop}
-use Rattle.settings.specs.Refusals.{refusal}
+use Rattle.settings.specs.Refusals.{eventsTooLong}
 use Rattle.settings.specs.declared.reply.Refusal.{Refusal}
 use Rattle.settings.specs.declared.reply.Reply.{Reply}
 use Rattle.settings.specs.declared.reply.Reply.the-variants.{Accepted, Refused as RefusedBy}
@@ -55,7 +55,7 @@ refusedScan b r = record { bank = b; answer = Refused r }
 unfoldable pub checkedScan : Bank → List ℕ → ℕ → Scanned
 checkedScan b rec room =
     cond (tooShort b rec room)
-    (refusedScan b (refusal 12 0))
+    (refusedScan b eventsTooLong)
     (record { bank = bankAfter b rec; answer = Events (length (eventsIn b rec)) })
 
 -- the event records in front of what stood behind them; a refusal leaves every byte

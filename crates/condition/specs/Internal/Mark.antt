@@ -24,14 +24,24 @@ pub record Marks : Type 0 where
   pub ack : ℕ
   pub return : ℕ
 
--- from a scan's count reset and events; `start` is when the row of scans that met the condition began
-abbrev pub marksAfter : Bool → Bool → Bool → Bool → Bool → ℕ → ℕ → Marks → Marks
-marksAfter reset acknowledged returned activated required start time m =
+-- what a scan did to a condition: it reset the counts, acknowledged, returned and activated it; the row of scans that met it began at `start`
+pub record Turn : Type 0 where
+  pub reset : Bool
+  pub acknowledged : Bool
+  pub returned : Bool
+  pub activated : Bool
+  -- AckRequired
+  pub required : Bool
+  pub start : ℕ
+  pub time : ℕ
+
+abbrev pub marksAfter : Turn → Marks → Marks
+marksAfter t m =
     record {
-      count = countAfter reset activated (m .count);
-      alarm = alarmStampAfter activated start (m .alarm);
-      ack = ackStampAfter acknowledged activated required start time (m .ack);
-      return = timeStampAfter returned time (m .return);
+      count = countAfter (t .reset) (t .activated) (m .count);
+      alarm = alarmStampAfter (t .activated) (t .start) (m .alarm);
+      ack = ackStampAfter (t .acknowledged) (t .activated) (t .required) (t .start) (t .time) (m .ack);
+      return = timeStampAfter (t .returned) (t .time) (m .return);
     }
 
 abbrev pub noMarks : Marks

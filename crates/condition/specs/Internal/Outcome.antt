@@ -3,7 +3,8 @@ use Prim.Native.Nat.{ℕ}
 use mathlib.Core.Bool.{Bool, _&&_}
 use mathlib.Core.List.{List, [], _∷_}
 use Rattle.wire.specs.Bits.{bit}
-use Rattle.condition.specs.Command.{acksOne}
+use Rattle.condition.specs.Command.{acks}
+use Rattle.settings.specs.Condition.{HH, H, L, LL, ROCPos, ROCNeg}
 use Rattle.history.specs.Internal.Condition.{Told, acknowledges, returns, activates, alarmAfter, unackedAfter}
 
 abbrev pub toldOf : Bool → Bool → Bool → Bool → Bool → Bool → Told
@@ -21,4 +22,4 @@ outcome digit enabled met frees ready ack required = outcomeBits (toldOf enabled
 
 -- which of the six conditions of an analog alarm a word acknowledges
 unfoldable pub ackBits : ℕ → ℕ → List Bool
-ackBits w p = acksOne w p 0 ∷ acksOne w p 1 ∷ acksOne w p 2 ∷ acksOne w p 3 ∷ acksOne w p 4 ∷ acksOne w p 5 ∷ []
+ackBits w p = acks w p HH ∷ acks w p H ∷ acks w p L ∷ acks w p LL ∷ acks w p ROCPos ∷ acks w p ROCNeg ∷ []

@@ -4,6 +4,8 @@ use Prim.Native.Nat.{ℕ, _+_}
 use mathlib.Core.List.{List, [], _∷_}
 use mathlib.Core.Bool.{Bool, false, not, _&&_, _||_, cond}
 use lib.Dec.{ltb}
+use mathlib.Core.Path.{_≡_}
+use Rattle.history.specs.Past.{Fact}
 use Rattle.history.specs.Demand.{Facts}
 
 -- what a condition is told in a scan
@@ -65,15 +67,19 @@ keptAfter t reset k =
 
 -- ---- the conditions of one alarm over a list of scans
 
-module _ {S C : Type 0} (f : Facts S C) where
+-- where cleared is: not met, and freed
+abbrev pub Frees : {S C : Type 0} → Facts S C → (C → Fact S) → Type 0
+Frees {S} {C} f frees = (c : C) (s : S) (past : List S) → f .cleared c s past ≡ not (f .met c s past) && frees c s past
+
+module _ {S C : Type 0} (f : Facts S C) (frees : C → Fact S) where
   -- what the scan tells a condition, given which conditions were in alarm before it
   abbrev pub told : (C → Bool) → C → S → List S → Told
   told before c s past =
       record {
         enabled = f .enabled s past;
         met = f .met c s past;
-        frees = f .frees c s past;
-        ready = f .lasted c s past || f .beside c before;
+        frees = frees c s past;
+        ready = f .lasted c s past || (f .beside c before || f .rate c);
         ack = f .ack c s past;
         required = f .required;
       }

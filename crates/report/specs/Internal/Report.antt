@@ -4,21 +4,17 @@ use mathlib.Core.Bool.{Bool, _&&_, cond}
 use lib.Dec.{leb}
 use lib.ListN.{getD}
 use Rattle.settings.specs.Alarm.{blank}
-use Rattle.settings.specs.Refusals.{refusal}
-use Rattle.settings.specs.declared.reply.Reply.the-variants.{Accepted, Refused as RefusedBy}
+use Rattle.settings.specs.declared.reply.Reply.the-variants.{Accepted}
 use Rattle.alarm.specs.Internal.Held.{freshState}
 use Rattle.bank.specs.declared.bank.Bank.{Bank}
-use Rattle.report.specs.Internal.Status.{noStatuses, statusesOf}
-use Rattle.report.specs.Internal.Whole.{noWhole, wholeOf}
+use Rattle.report.specs.Empty.{noReport}
+use Rattle.report.specs.Internal.Status.{statusesOf}
+use Rattle.report.specs.Internal.Whole.{wholeOf}
 use Rattle.report.specs.declared.report.AlarmReport.{AlarmReport}
 
 -- alarms are numbered from 1. (Counts over 12 stand in no bank that a call handed back)
 unfoldable pub isThere : ℕ → ℕ → ℕ → Bool
 isThere digital analog n = leb digital 12 && leb analog 12 && (leb 1 n && leb n (digital + analog))
-
--- no such alarm: 14, all zeros and false
-unfoldable pub noReport : AlarmReport
-noReport = record { reply = RefusedBy (refusal 14 0); alarm = noWhole; resettime = 0; conditions = noStatuses }
 
 -- the alarm at a place
 unfoldable pub reportAt : Bank → ℕ → AlarmReport

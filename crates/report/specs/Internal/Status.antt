@@ -1,20 +1,13 @@
 -- What a report says of the conditions of an alarm.
 use Prim.Native.Nat.{ℕ, _+_, _/_}
-use mathlib.Core.Bool.{not, false}
+use mathlib.Core.Bool.{not}
 use mathlib.Core.List.{List, [], _∷_}
-use lib.ListN.{replicate}
 use Rattle.wire.specs.Bits.{bit}
 use Rattle.settings.specs.declared.types.Kind.{Kind}
 use Rattle.settings.specs.declared.types.Kind.the-variants.{Digital, Analog}
 use Rattle.marks.specs.Internal.Marks.{marksAt}
+use Rattle.report.specs.Empty.{noStatus}
 use Rattle.report.specs.declared.status.Status.{Status}
-
--- where no condition is: all zeros and false
-abbrev pub noStatus : Status
-noStatus = record { alarm = false; acked = false; count = 0; alarmtime = 0; acktime = 0; returntime = 0 }
-
-unfoldable pub noStatuses : List Status
-noStatuses = replicate 6 noStatus
 
 -- in alarm, acknowledged, count and stamps: of the condition whose flags stand lowest in a digit, in alarm and unacknowledged, and whose words
 -- begin at an offset

@@ -1,20 +1,16 @@
 -- What a report says of a whole alarm.
 use Prim.Native.Nat.{ℕ}
-use mathlib.Core.Bool.{Bool, false, not, _||_}
+use mathlib.Core.Bool.{Bool, not, _||_}
 use Rattle.condition.specs.Severity.{severityInvalid}
 use Rattle.settings.specs.declared.types.Severities.{Severities}
 use Rattle.settings.specs.declared.types.Kind.{Kind}
 use Rattle.settings.specs.declared.types.Kind.the-variants.{Digital, Analog}
 use Rattle.settings.specs.declared.types.Alarm.{Alarm}
-use Rattle.level.specs.Level.{zeroReal}
+use Rattle.wire.specs.Real.{zeroReal}
 use Rattle.alarm.specs.Internal.Held.{High, Low, DigitalHeld, lookDigital, AnalogHeld, lookAnalog}
 use Rattle.alarm.specs.declared.state.State.{State}
-use Rattle.alarm_history.specs.Elapsed.{elapsed}
+use Rattle.alarm_history.specs.Internal.After.{elapsed}
 use Rattle.report.specs.declared.whole.Whole.{Whole}
-
--- where no alarm is: all zeros and false
-abbrev pub noWhole : Whole
-noWhole = record { enabled = false; suppressed = false; infaulted = false; severityinv = false; rate = zeroReal; high = 0; low = 0 }
 
 -- SeverityInv of an analog alarm: any of its severities is out of range
 unfoldable pub anyInvalid : Severities → Bool

@@ -4,7 +4,8 @@ use mathlib.Core.Path.{_≡_}
 use mathlib.Core.Bool.{true, _||_}
 use lib.Ieee.{binary32, lt, add, sub}
 use Rattle.wire.specs.Real.{bounded}
-use Rattle.settings.specs.Rules.{onHH, onH, onL, onLL, nonNegative, lowOf, highOf}
+use Rattle.settings.specs.Alarm.{onHH, onH, onL, onLL}
+use Rattle.settings.specs.Rules.{nonNegative, lowOf, highOf}
 use Rattle.settings.specs.declared.types.Alarm.{Alarm}
 use Rattle.settings.specs.declared.types.Limits.{Limits}
 use Rattle.settings.specs.declared.types.Kind.{Kind}

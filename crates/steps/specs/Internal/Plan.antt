@@ -13,17 +13,23 @@ use Rattle.condition.specs.Event.{Event}
 use Rattle.alarm.specs.declared.state.State.{State}
 use Rattle.alarm.specs.declared.state.Stepped.{Stepped}
 use Rattle.event.specs.Internal.Bits.{eventsOf}
-use Rattle.scan_record.specs.Check.{formAt}
-use Rattle.scan_record.specs.Part.{offsetOf, readingAt, wordAt}
+use Rattle.scan_record.specs.Entry.{entryAt}
+use Rattle.scan_record.specs.declared.entry.Entry.{Entry}
+use Rattle.scan_record.specs.declared.entry.Entry.the-variants.{Read, Refused}
+use Rattle.scan_record.specs.Part.{formAt, offsetOf}
 
--- an alarm is stepped with its part of the record
-unfoldable pub stepPart : Form → List ℕ → ℕ → Alarm → State → ℕ → Stepped
-stepPart form rec at a s time = stepOf a s (readingAt form rec at) (wordAt form rec at) time
+-- an alarm is stepped with its part of the record; one that is refused, which no checked record has, changes nothing
+abbrev pub stepEntry : Entry → Alarm → State → ℕ → Stepped
+stepEntry (Read x word next) a s time = stepOf a s x word time
+stepEntry (Refused r) a s time = record { state = s; events = 0 }
+
+unfoldable pub stepPart : Form → List ℕ → ℕ → ℕ → Alarm → State → ℕ → Stepped
+stepPart form rec at number a s time = stepEntry (entryAt form rec at number) a s time
 
 -- the alarm at a place
 abbrev pub stepAt : List ℕ → ℕ → List Alarm → List State → ℕ → ℕ → Stepped
 stepAt rec digital alarms states time place =
-    stepPart (formAt digital place) rec (offsetOf digital place) (getD alarms place blank) (getD states place freshState) time
+    stepPart (formAt digital place) rec (offsetOf digital place) (place + 1) (getD alarms place blank) (getD states place freshState) time
 
 module _ {X : Type 0} where
   -- the first n elements are those that f gives for their places; the rest stay

@@ -1,5 +1,6 @@
 -- `condition::command::ack_word` meets its contract: a bit for each condition, and none of a word that has none. Assumes nothing.
 use borrow.Author.Needs.{needs}
+use Rattle.condition.specs.Command.{acks}
 use Rattle.condition.specs.Internal.Outcome.{ackBits}
 use Rattle.wire.specs.Internal.Words.{wordOf, spread}
 use native.Mathlib.Omega.{arith}
@@ -9,11 +10,11 @@ use Rattle.condition.proofs.command.ack_word.Statement.{statement}
 use Rattle.condition.proofs.command.ack_word.Tie as tie
 
 returns : tie.Need-returns
-unfolding wordOf spread ackBits
+unfolding wordOf spread ackBits acks
 returns c = (sym (ap (λ (w : ℕ). wordOf (spread (ackBits w (c .before .args .previous)))) (c .if1 .taken)), omega arith)
 
 returns-2 : tie.Need-returns-2
-unfolding ackBits
+unfolding ackBits acks
 returns-2 c = (c .spread6 .ensures .0 ∙ rw (c .before .acks-all .ensures), c .spread6 .ensures .1)
 
 pub ack-word-spec : {M : Type 1} → statement M

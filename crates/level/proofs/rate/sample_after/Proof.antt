@@ -15,12 +15,14 @@ returns c =
       rated .either .ensures,
       rated .before .new-rate .ensures,
       rated .before .before .elapsed .ensures,
+      rated .before .before .before .value-of .ensures,
     )
 
 pub sample-after-spec : {M : Type 1} → statement M
 sample-after-spec =
     tie.close
     (tie.spec
+    (λ c κs. search needs)
     (λ c κs. search needs)
     (λ c κs. search needs)
     (λ c κs. search needs)

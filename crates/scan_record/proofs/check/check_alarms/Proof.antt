@@ -5,9 +5,9 @@ use Prim.Native.Nat.{ℕ, _+_, _-_, _≤_}
 use native.Mathlib.Nat.{sub-zero}
 use native.Mathlib.Omega.{arith}
 use denote.Ref.{now}
-use Rattle.scan_record.specs.Entry.{entrySize}
-use Rattle.scan_record.specs.Check.{formAt, checkFrom}
-use Rattle.scan_record.specs.Part.{offsetOf}
+use Rattle.scan_record.specs.Internal.Size.{entrySize}
+use Rattle.scan_record.specs.Part.{formAt, offsetOf}
+use Rattle.scan_record.specs.Check.{checkFrom}
 use Rattle.scan_record.proofs.Entries.{entry-past, offset-next, check-next, check-stop, check-end}
 use Rattle.scan_record.proofs.check.check_alarms.Statement.{statement}
 use Rattle.scan_record.proofs.check.check_alarms.Tie as tie

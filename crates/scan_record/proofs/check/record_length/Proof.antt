@@ -1,7 +1,7 @@
 -- `scan_record::check::record_length` meets its contract: each return takes the case that its tests led to. Assumes nothing.
 use borrow.Author.Needs.{needs}
 use borrow.Author.Tests.{le-leb, lt-leb}
-use Rattle.scan_record.specs.Check.{lengthOf}
+use Rattle.scan_record.specs.Internal.Size.{lengthOf}
 use Rattle.scan_record.proofs.check.record_length.Statement.{statement}
 use Rattle.scan_record.proofs.check.record_length.Tie as tie
 

@@ -1,0 +1,78 @@
+-- What a scan answers and which events it writes, from the settings and the records accepted before alone. Records stand latest first.
+use Prim.Native.Nat.{ℕ, zero, suc, _+_, _*_}
+use mathlib.Core.Bool.{Bool, true, false, cond}
+use mathlib.Core.List.{List, [], _∷_, _++_, map}
+use lib.Dec.{ltb}
+use lib.ListN.{length, getD, drop}
+use Rattle.settings.specs.Alarm.{blank}
+use Rattle.settings.specs.Refusals.{eventsTooLong}
+use Rattle.settings.specs.declared.types.Alarm.{Alarm}
+use Rattle.settings.specs.declared.types.Settings.{Settings}
+use Rattle.settings.specs.declared.reply.Reply.{Reply}
+use Rattle.settings.specs.declared.reply.Reply.the-variants.{Accepted, Refused as RefusedBy}
+use Rattle.condition.specs.Event.{Event, logBytes}
+use Rattle.scan_record.specs.Part.{timeOf, formAt, readingAt, wordAt, offsetOf}
+use Rattle.scan_record.specs.Check.{checkRecord}
+use Rattle.alarm_history.specs.Scans.{Scan}
+use Rattle.alarm_history.specs.Events.{alarmLog}
+use Rattle.bank.specs.declared.parts.Answer.{Answer}
+use Rattle.bank.specs.declared.parts.Answer.the-variants.{Events, Refused}
+use Rattle.bank_history.specs.Calls.{Call}
+
+-- the alarm at a place, from 0, and the scans that the records are to it
+abbrev pub alarmAt : Settings → ℕ → Alarm
+alarmAt s place = getD (s .alarms) place blank
+
+abbrev pub scanAt : Settings → ℕ → List ℕ → Scan
+scanAt s place rec =
+    record {
+      time = timeOf rec;
+      reading = readingAt (formAt (s .digital) place) rec (offsetOf (s .digital) place);
+      word = wordAt (formAt (s .digital) place) rec (offsetOf (s .digital) place);
+    }
+
+abbrev pub scansAt : Settings → ℕ → List (List ℕ) → List Scan
+scansAt s place records = map (scanAt s place) records
+
+-- the events of a record, of the first n alarms in number order
+unfoldable pub scanLog : Settings → List ℕ → List (List ℕ) → ℕ → List Event
+scanLog s rec past zero = []
+scanLog s rec past (suc n) = scanLog s rec past n ++ alarmLog (suc n) (alarmAt s n) (scanAt s n rec) (scansAt s n past)
+
+abbrev pub logOf : Settings → List ℕ → List (List ℕ) → List Event
+logOf s rec past = scanLog s rec past (s .digital + s .analog)
+
+-- the time of the last accepted record
+abbrev pub lastAccepted : List (List ℕ) → ℕ
+lastAccepted [] = 0
+lastAccepted (rec ∷ past) = timeOf rec
+
+-- after the check: 12 where the buffer is too short for 16 bytes an event, or the number of events
+abbrev pub afterCheck : Reply → ℕ → ℕ → Answer
+afterCheck Accepted room events = cond (ltb room (16 * events)) (Refused eventsTooLong) (Events events)
+afterCheck (RefusedBy r) room events = Refused r
+
+-- the answer to a record, given the length of the lent buffer: the first of 7 to 12, or the number of events
+abbrev pub answerTo : Settings → List (List ℕ) → List ℕ → ℕ → Answer
+answerTo s past rec room = afterCheck (checkRecord (s .digital) (s .analog) (lastAccepted past) rec) room (length (logOf s rec past))
+
+-- the buffer after it: the event records in front of what stood behind them; a refusal leaves every byte
+abbrev pub logged : Answer → List ℕ → List ℕ → List ℕ
+logged (Events n) log out = log ++ drop (length log) out
+logged (Refused r) log out = out
+
+abbrev pub bufferAfter : Settings → List (List ℕ) → List ℕ → List ℕ → List ℕ
+bufferAfter s past rec out = logged (answerTo s past rec (length out)) (logBytes (logOf s rec past)) out
+
+-- a call is accepted where none of its refusals applies
+abbrev pub isAccepted : Answer → Bool
+isAccepted (Events n) = true
+isAccepted (Refused r) = false
+
+abbrev pub accepts : Settings → List (List ℕ) → Call → Bool
+accepts s past c = isAccepted (answerTo s past (c .bytes) (length (c .buffer)))
+
+-- the records of the accepted calls, in front of those before them
+unfoldable pub accepted : Settings → List Call → List (List ℕ) → List (List ℕ)
+accepted s [] past = past
+accepted s (c ∷ calls) past = accepted s calls (cond (accepts s past c) (c .bytes ∷ past) past)
