@@ -10,7 +10,7 @@ use Rattle.settings.specs.declared.types.Limits.{Limits}
 use Rattle.settings.specs.declared.types.Reading.{Reading}
 use Rattle.level.specs.Level.{met, frees}
 use Rattle.level.specs.Internal.Bits.{analogOf, metBits, freesBits}
-use Rattle.condition.specs.Internal.Outcome.{ackBits, toldOf, outcomeBits}
+use Rattle.condition.specs.Internal.Outcome.{ackBits, outcomeBits}
 use Rattle.wire.specs.Bits.{bit}
 use Rattle.wire.specs.Internal.Words.{wordOf, spread}
 use Rattle.wire.proofs.WordLaws.{word-halves, word-join}
@@ -44,7 +44,9 @@ module _ (a : Alarm) (s : State) (x : Reading) (word time : ℕ) {m c : ℕ}
 -- the words of the six are read bit by bit
 cell-lists : (flags : ℕ) (enabled required : Bool) (met frees ready acks : List Bool) (k : ℕ)
     → cell flags enabled (wordOf (spread met)) (wordOf (spread frees)) (wordOf (spread ready)) (wordOf (spread acks)) required k
-    ≡ outcomeBits (toldOf enabled (getD met k false) (getD frees k false) (getD ready k false) (getD acks k false) required) (bit flags (6 + 3 * k)) (bit flags (7 + 3 * k))
+    ≡ outcomeBits
+    (record { enabled = enabled; met = getD met k false; frees = getD frees k false; ready = getD ready k false; ack = getD acks k false; required = required })
+    (bit flags (6 + 3 * k)) (bit flags (7 + 3 * k))
 cell-lists flags enabled required met frees ready acks k = rw (bit-spread met k, bit-spread frees k, bit-spread ready k, bit-spread acks k)
 
 -- modes, the sample and the runs, and the conditions
@@ -63,8 +65,14 @@ module _ (flags duration : ℕ) (g : Limits) (period : ℕ) (s : State) (x : Rea
   abbrev pub outcomes : ℕ → List Bool
   outcomes k =
       outcomeBits
-      (toldOf (not (after .disabled)) (getD (metBits (analogOf flags 0 g period) x (after .sample .rate)) k false) (getD (freesBits (analogOf 0 0 g 0) x) k false)
-      (getD (readyBits (s .flags) (after .run High .start) (after .run Low .start) duration time) k false) (getD (ackBits word (s .previous)) k false) (bit flags 4))
+      (record {
+        enabled = not (after .disabled);
+        met = getD (metBits (analogOf flags 0 g period) x (after .sample .rate)) k false;
+        frees = getD (freesBits (analogOf 0 0 g 0) x) k false;
+        ready = getD (readyBits (s .flags) (after .run High .start) (after .run Low .start) duration time) k false;
+        ack = getD (ackBits word (s .previous)) k false;
+        required = bit flags 4;
+      })
       (bit (s .flags) (6 + 3 * k)) (bit (s .flags) (7 + 3 * k))
 
   pub decided-is : decided flags duration g (startsAfter s time) (not (after .disabled)) (wordOf (spread (metBits (analogOf flags 0 g period) x (after .sample .rate)))) x word time

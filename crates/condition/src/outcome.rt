@@ -17,7 +17,7 @@ pub fn condition(
     ack: bool,
     required: bool,
 ) -> u32
-    ensures { λ r. ⌜ (r ≡ wordOf (outcome digit enabled met frees ready ack required)) × (r < 64) ⌝ }
+    ensures { λ r. ⌜ (r ≡ wordOf (outcome digit (record { enabled = enabled; met = met; frees = frees; ready = ready; ack = ack; required = required }))) × (r < 64) ⌝ }
 {
     let alarm = digit % 2 == 1;
     let unacked = digit / 2 % 2 == 1;

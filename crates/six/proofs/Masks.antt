@@ -9,7 +9,6 @@ use Rattle.wire.specs.Internal.Words.{wordOf}
 use Rattle.wire.proofs.WordLaws.{bit-shift}
 use Rattle.wire.proofs.MaskLaws.{Thirds, every, within, same, both, either, differ, flip, of-word, with-word, join}
 use Rattle.history.specs.Internal.Condition.{Told, acknowledges, returns, activates, alarmAfter, unackedAfter}
-use Rattle.condition.specs.Internal.Outcome.{toldOf}
 use Rattle.six.specs.Internal.Cells.{cell, six}
 
 -- ---- laws of truth values: e enabled, a in alarm, u unacknowledged, m met, f freed, r ready, k acknowledged, q required, v activated
@@ -76,7 +75,7 @@ module _ (flags met frees ready acks on need : ℕ) where
 
   module _ (enabled required : Bool) (p : on ≡ cond enabled 37449 0) (q : need ≡ cond required 37449 0) where
     abbrev told : ℕ → Told
-    told k = toldOf enabled (bit met (3 * k)) (bit frees (3 * k)) (bit ready (3 * k)) (bit acks (3 * k)) required
+    told k = record { enabled = enabled; met = bit met (3 * k); frees = bit frees (3 * k); ready = bit ready (3 * k); ack = bit acks (3 * k); required = required }
 
     abbrev inAlarm : ℕ → Bool
     inAlarm k = bit flags (6 + 3 * k)

@@ -7,18 +7,14 @@ use Rattle.condition.specs.Command.{acks}
 use Rattle.settings.specs.Condition.{HH, H, L, LL, ROCPos, ROCNeg}
 use Rattle.history.specs.Internal.Condition.{Told, acknowledges, returns, activates, alarmAfter, unackedAfter}
 
-abbrev pub toldOf : Bool → Bool → Bool → Bool → Bool → Bool → Told
-toldOf enabled met frees ready ack required =
-    record { enabled = enabled; met = met; frees = frees; ready = ready; ack = ack; required = required }
-
 -- in alarm, unacknowledged, met in an enabled scan; then the events 6, 7, 8
 abbrev pub outcomeBits : Told → Bool → Bool → List Bool
 outcomeBits t alarm unacked =
     alarmAfter t alarm ∷ unackedAfter t alarm unacked ∷ (t .enabled && t .met) ∷ acknowledges t unacked ∷ returns t alarm ∷ activates t alarm ∷ []
 
 -- of a condition that was in alarm and unacknowledged as the bits 0 and 1 of a digit say
-abbrev pub outcome : ℕ → Bool → Bool → Bool → Bool → Bool → Bool → List Bool
-outcome digit enabled met frees ready ack required = outcomeBits (toldOf enabled met frees ready ack required) (bit digit 0) (bit digit 1)
+abbrev pub outcome : ℕ → Told → List Bool
+outcome digit t = outcomeBits t (bit digit 0) (bit digit 1)
 
 -- which of the six conditions of an analog alarm a word acknowledges
 unfoldable pub ackBits : ℕ → ℕ → List Bool
