@@ -67,7 +67,9 @@ module _ (flags duration : ℕ) (g : Limits) (period : ℕ) (x : Reading) (rate 
 module _ (a : Alarm) (s : State) (x : Reading) (word time : ℕ) where
   -- the sample after a scan that is enabled, as the one before was
   abbrev pub restSample : Sample
-  restSample = sampleAfter (periodOf (a .kind)) true true time x (record { value = s .sample; rate = s .rate; at = s .sampled })
+  restSample =
+      sampleAfter (record { period = periodOf (a .kind); enabled = true; held = true; time = time; reading = x })
+      (record { value = s .sample; rate = s .rate; at = s .sampled })
 
   pub analog-rests : word ≡ 0 → s .flags ≡ 8
       → ((c : Six) → met a (ofSix c) x (restSample .rate) ≡ false)

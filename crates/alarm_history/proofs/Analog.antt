@@ -95,7 +95,8 @@ module _ (a : Alarm) (required : analogRequired (a .flags) ≡ ackRequired (a .k
 
     -- the scan, by whether it leaves the alarm disabled
     abbrev sampled : Bool → Sample
-    sampled d = sampleAfter (periodOf (a .kind)) (not d) (holds enabled past) (s .time) (s .reading) (sampleIn a past)
+    sampled d =
+        sampleAfter (record { period = periodOf (a .kind); enabled = not d; held = holds enabled past; time = s .time; reading = s .reading }) (sampleIn a past)
 
     abbrev metBy : Bool → Condition → Bool
     metBy d c = met a c (s .reading) (sampled d .rate)

@@ -18,7 +18,9 @@ module _ (a : Alarm) where
   -- the sample, its time and the rate, worked out from the scans
   unfoldable pub sampleIn : List Scan → Sample
   sampleIn [] = noSample
-  sampleIn (s ∷ past) = sampleAfter (periodOf (a .kind)) (enabled s past) (holds enabled past) (s .time) (s .reading) (sampleIn past)
+  sampleIn (s ∷ past) =
+      sampleAfter (record { period = periodOf (a .kind); enabled = enabled s past; held = holds enabled past; time = s .time; reading = s .reading })
+      (sampleIn past)
 
   abbrev pub metIn : Condition → Fact Scan
   metIn c s past = met a c (s .reading) (sampleIn (s ∷ past) .rate)

@@ -66,17 +66,18 @@ abbrev first : Sample
 first = record { value = real 0x44480000; rate = zeroReal; at = 0 }
 
 -- the first enabled scan stores the reading, with rate 0
-stored : (s : Sample) → sampleAfter 1000 true false 0 (level 0x44480000) s ≡ first
+stored : (s : Sample) → sampleAfter (record { period = 1000; enabled = true; held = false; time = 0; reading = level 0x44480000 }) s ≡ first
 unfolding sampleAfter
 stored s = refl
 
 -- 810 at 999 keeps the sample and its rate
-early : sampleAfter 1000 true true 999 (level 0x444A8000) first ≡ first
+early : sampleAfter (record { period = 1000; enabled = true; held = true; time = 999; reading = level 0x444A8000 }) first ≡ first
 unfolding sampleAfter
 early = refl
 
 -- 805 at 1000 gives rate 5
-due : sampleAfter 1000 true true 1000 (level 0x44494000) first ≡ record { value = real 0x44494000; rate = real 0x40A00000; at = 1000 }
+due : sampleAfter (record { period = 1000; enabled = true; held = true; time = 1000; reading = level 0x44494000 }) first
+    ≡ record { value = real 0x44494000; rate = real 0x40A00000; at = 1000 }
 unfolding sampleAfter newRate ofBits ofInt sub mul div
 due = refl
 
@@ -97,6 +98,7 @@ unfolding metBits met lt ofBits
 no-rates = refl
 
 -- a disabled scan has rate 0, whatever came before
-disabled-scan : (period time : ℕ) (held : Bool) (x : Reading) (s : Sample) → sampleAfter period false held time x s .rate ≡ zeroReal
+disabled-scan : (period time : ℕ) (held : Bool) (x : Reading) (s : Sample)
+    → sampleAfter (record { period = period; enabled = false; held = held; time = time; reading = x }) s .rate ≡ zeroReal
 unfolding sampleAfter
 disabled-scan period time held x s = refl

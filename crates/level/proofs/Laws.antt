@@ -9,7 +9,8 @@ use Rattle.level.specs.Rate.{newRate, sampleAfter}
 use Rattle.level.specs.declared.rate.Sample.{Sample}
 
 -- with ROCPeriod 0 the rate is 0
-pub no-period : (enabled held : Bool) (time : ℕ) (x : Reading) (s : Sample) → sampleAfter 0 enabled held time x s .rate ≡ zeroReal
+pub no-period : (enabled held : Bool) (time : ℕ) (x : Reading) (s : Sample)
+    → sampleAfter (record { period = 0; enabled = enabled; held = held; time = time; reading = x }) s .rate ≡ zeroReal
 unfolding sampleAfter newRate
 no-period true true time x s = rw leb·zero
 no-period true false time x s = refl

@@ -25,18 +25,22 @@ periodReal period = ofInt binary32 (pos (min period 16777216))
 unfoldable pub newRate : ℕ → Float → Float → Float
 newRate period stored x = cond (eqb period 0) zeroReal (div binary32 (mul binary32 (sub binary32 x stored) thousand) (periodReal period))
 
--- at least ROCPeriod has passed since the sample
-abbrev pub sampleDue : ℕ → ℕ → ℕ → Bool
-sampleDue period at time = leb period (time - at)
+-- what a scan says to the sample; `held`: the scan before was enabled and left a sample
+pub record Sampling : Type 0 where
+  pub period : ℕ
+  pub enabled : Bool
+  pub held : Bool
+  pub time : ℕ
+  pub reading : Reading
 
--- the sample after a scan: the first enabled scan, or the first after a disabled one, stores it, and a scan at least ROCPeriod after it.
--- `held` says that the scan before was enabled and left a sample
-unfoldable pub sampleAfter : ℕ → Bool → Bool → ℕ → Reading → Sample → Sample
-sampleAfter period enabled held time x s =
+-- the sample after a scan: the first enabled scan, or the first after a disabled one, stores it, and a scan at least ROCPeriod after it
+unfoldable pub sampleAfter : Sampling → Sample → Sample
+sampleAfter n s =
+    let due : Bool = leb (n .period) (n .time - s .at) in
     record {
-      value = cond (held && not (sampleDue period (s .at) time)) (s .value) (valueOf x);
-      at = cond (held && not (sampleDue period (s .at) time)) (s .at) time;
-      rate = cond (enabled && held) (cond (sampleDue period (s .at) time) (newRate period (s .value) (valueOf x)) (s .rate)) zeroReal;
+      value = cond (n .held && not due) (s .value) (valueOf (n .reading));
+      at = cond (n .held && not due) (s .at) (n .time);
+      rate = cond (n .enabled && n .held) (cond due (newRate (n .period) (s .value) (valueOf (n .reading))) (s .rate)) zeroReal;
     }
 
 -- before the first scan

@@ -57,7 +57,7 @@ pub fn sample_after(
     reading: Reading,
     s: Sample,
 ) -> Sample
-    ensures { λ r. ⌜ r ≡ sampleAfter period enabled held time reading s ⌝ }
+    ensures { λ r. ⌜ r ≡ sampleAfter (record { period = period; enabled = enabled; held = held; time = time; reading = reading }) s ⌝ }
 {
     let x = value_of(reading);
     let due = period as u64 <= elapsed(s.at, time);

@@ -20,16 +20,13 @@ abbrev pub formAt : ℕ → ℕ → Form
 formAt digital place = cond (ltb place digital) Digital Analog
 
 -- an alarm's part: a digital bit in one byte or a REAL in four, then the command word in four
-abbrev pub readingSize : Form → ℕ
-readingSize Digital = 1
-readingSize Analog = 4
-
 abbrev pub readingAt : Form → List ℕ → ℕ → Reading
 readingAt Digital rec at = Bit (eqb (getD rec at 0) 1)
 readingAt Analog rec at = Level (realAt rec at)
 
 abbrev pub wordAt : Form → List ℕ → ℕ → ℕ
-wordAt form rec at = number rec (at + readingSize form) 4
+wordAt Digital rec at = number rec (at + 1) 4
+wordAt Analog rec at = number rec (at + 4) 4
 
 -- where the part of the alarm at a place begins
 abbrev pub offsetOf : ℕ → ℕ → ℕ

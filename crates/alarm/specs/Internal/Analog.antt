@@ -32,7 +32,7 @@ module _ (a : Alarm) (x : Reading) (word time : ℕ) (h : AnalogHeld) where
   analogEnabled = not (disabledAfter word (h .disabled))
 
   abbrev pub analogSample : Sample
-  analogSample = sampleAfter (periodOf (a .kind)) analogEnabled (h .held) time x (h .sample)
+  analogSample = sampleAfter (record { period = periodOf (a .kind); enabled = analogEnabled; held = h .held; time = time; reading = x }) (h .sample)
 
   abbrev pub analogMet : Six → Bool
   analogMet c = met a (ofSix c) x (analogSample .rate)

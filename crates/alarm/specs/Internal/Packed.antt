@@ -45,7 +45,8 @@ startsAfter s time =
 -- the sample after a scan
 unfoldable pub resampled : State → ℕ → Bool → Reading → ℕ → Sample
 resampled s period enabled x time =
-    sampleAfter period enabled (bit (s .flags) 3) time x (record { value = s .sample; rate = s .rate; at = s .sampled })
+    sampleAfter (record { period = period; enabled = enabled; held = bit (s .flags) 3; time = time; reading = x })
+    (record { value = s .sample; rate = s .rate; at = s .sampled })
 
 -- the conditions of a state whose runs begin where this scan's do
 unfoldable pub decided : ℕ → ℕ → Limits → State → Bool → ℕ → Reading → ℕ → ℕ → Cells
