@@ -4,6 +4,7 @@ use mathlib.Core.Bool.{Bool, false}
 use mathlib.Core.List.{List, [], _∷_, _++_, map}
 use lib.ListN.{getD, replicate}
 use Rattle.wire.specs.Number.{bytes}
+use Rattle.wire.specs.Internal.Words.{words}
 use Rattle.condition.specs.Event.{Event}
 use Rattle.reader.specs.Read.{readOf}
 use Rattle.report.specs.Empty.{noStatus}
@@ -28,10 +29,6 @@ pub record Numbers : Type 0 where
   pub deadband : ℕ
   pub rocpos : ℕ
   pub rocneg : ℕ
-
-unfoldable pub words : List ℕ → List ℕ
-words [] = []
-words (v ∷ vs) = bytes 4 v ++ words vs
 
 unfoldable pub analogImage : ℕ → Numbers → ℕ → ℕ → List ℕ
 analogImage flags g period duration =

@@ -6,6 +6,7 @@ use mathlib.Core.List.{List, [], _∷_, _++_}
 use lib.ListN.{replicate}
 use lib.Ieee.{Float, binary32, ofBits, toBits, ofInt, sub, add, mul, div, neg, lt, le, eq}
 use Rattle.wire.specs.Number.{value, bytes}
+use Rattle.wire.specs.Internal.Words.{words}
 use Rattle.wire.specs.Real.{largest, bounded}
 use Rattle.settings.specs.Alarm.{blanks, empty}
 use Rattle.settings.specs.Rules.{limitsInRange, inRange, rising, banded, apart}
@@ -25,7 +26,7 @@ use Rattle.scan_record.specs.Check.{checkFrom, whole, checkRecord}
 use Rattle.alarm_history.specs.Facts.{sampleIn}
 use Rattle.report.specs.Empty.{noStatuses, noReport}
 use Rattle.bank_history.specs.Answers.{scanLog, accepted}
-use Rattle.marked.proofs.Cases.{digitalImage, Numbers, words, analogImage, bit, real, written, report, status, event}
+use Rattle.marked.proofs.Cases.{digitalImage, Numbers, analogImage, bit, real, written, report, status, event}
 
 -- MinDuration 0 and 100, and latched
 abbrev plain : List ℕ
