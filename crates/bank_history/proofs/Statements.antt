@@ -61,7 +61,7 @@ not-not false = refl
 
 module _ (image : List ℕ) (calls : List Call) (good : Good image) where
   abbrev s : Settings
-  s = settings image calls
+  s = settings image
 
   abbrev b : Bank
   b = bank image calls

@@ -30,30 +30,30 @@ use Rattle.bank_history.specs.Report.{reportAfter}
 abbrev pub Good : List ℕ → Type 0
 Good image = T (areBytes image) × (readOf image .reply ≡ Accepted)
 
-module _ (image : List ℕ) (calls : List Call) where
-  abbrev pub settings : Settings
-  settings = readOf image .settings
+abbrev pub settings : List ℕ → Settings
+settings image = readOf image .settings
 
+module _ (image : List ℕ) (calls : List Call) where
   -- the bank after the calls
   abbrev pub bank : Bank
   bank = after (loadOf image .bank) calls
 
   -- the records accepted in the calls
   abbrev pub records : List (List ℕ)
-  records = accepted settings calls []
+  records = accepted (settings image) calls []
 
   -- what one more call then gives
   pub record Replies : Type 0 where
     -- a scan: it is not refused exactly where none of 7 to 12 applies
-    pub accepting : (c : Call) → isAccepted (scanOf bank (c .bytes) (length (c .buffer)) .answer) ≡ accepts settings records c
+    pub accepting : (c : Call) → isAccepted (scanOf bank (c .bytes) (length (c .buffer)) .answer) ≡ accepts (settings image) records c
     -- its answer, and every byte of its event buffer
-    pub answer : (rec : List ℕ) (room : ℕ) → scanOf bank rec room .answer ≡ answerTo settings records rec room
-    pub buffer : (rec out : List ℕ) → eventBuffer bank rec out ≡ bufferAfter settings records rec out
+    pub answer : (rec : List ℕ) (room : ℕ) → scanOf bank rec room .answer ≡ answerTo (settings image) records rec room
+    pub buffer : (rec out : List ℕ) → eventBuffer bank rec out ≡ bufferAfter (settings image) records rec out
     -- with 3,840 bytes only 7 to 11 refuse
-    pub suffices : (rec : List ℕ) (room : ℕ) → checkRecord (settings .digital) (settings .analog) (lastAccepted records) rec ≡ Accepted → 3840 ≤ room
+    pub suffices : (rec : List ℕ) (room : ℕ) → checkRecord (settings image .digital) (settings image .analog) (lastAccepted records) rec ≡ Accepted → 3840 ≤ room
         → isAccepted (scanOf bank rec room .answer) ≡ true
     -- a report
-    pub report : (n : ℕ) → reportOf bank n ≡ reportAfter settings records n
+    pub report : (n : ℕ) → reportOf bank n ≡ reportAfter (settings image) records n
     -- the writer: the image that was read, or 13
     pub write : (room : ℕ) → writtenOf (bank .settings) room ≡ cond (leb (length image) room) (Length (length image)) (Refused imageTooLong)
     pub image-written : (out : List ℕ) → imageBuffer (bank .settings) out ≡ cond (leb (length image) (length out)) (image ++ drop (length image) out) out
@@ -66,11 +66,11 @@ EveryReply = (image : List ℕ) (calls : List Call) → Good image → Replies i
 abbrev pub DemandThree : Type 0
 DemandThree =
     (image : List ℕ) (calls : List Call) (n i : ℕ) → Good image
-    → 1 ≤ n → n ≤ settings image calls .digital + settings image calls .analog
-    → i < length (conditionsOf (alarmAt (settings image calls) (n - 1) .kind))
-    → let a = alarmAt (settings image calls) (n - 1) in
+    → 1 ≤ n → n ≤ settings image .digital + settings image .analog
+    → i < length (conditionsOf (alarmAt (settings image) (n - 1) .kind))
+    → let a = alarmAt (settings image) (n - 1) in
     let said = getD (reportOf (bank image calls) n .conditions) i noStatus in
-    Demand3 (facts a) (said .alarm) (not (said .acked)) (said .count) (scansAt (settings image calls) (n - 1) (records image calls)) (getD (conditionsOf (a .kind)) i In)
+    Demand3 (facts a) (said .alarm) (not (said .acked)) (said .count) (scansAt (settings image) (n - 1) (records image calls)) (getD (conditionsOf (a .kind)) i In)
 
 -- two receivers whose accepted records are the same report every alarm the same, whatever was refused and whatever buffers were lent
 abbrev pub TwoReceivers : Type 0
