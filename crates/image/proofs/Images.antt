@@ -12,7 +12,7 @@ use lib.ListN.{length, getD, take, length-append, length-take, length-drop, drop
 use lib.Seq.{slice, slice-cons, sets, sets-eq}
 use Rattle.wire.proofs.Laws.{length-words, sets-append}
 use Rattle.image.specs.Internal.Write.{digitalBytes, analogBytes, severityWords, limitWords, kindBytes, recordBytes, recordsBytes, sectionBytes, imageOf, sizeOfImage, hasRoom}
-use Rattle.reader.specs.Record.{sizeOf}
+use Rattle.settings_record.specs.Record.{sizeOf}
 use Rattle.settings.specs.Alarm.{blank}
 use Rattle.settings.specs.declared.types.Alarm.{Alarm}
 use Rattle.settings.specs.declared.types.Settings.{Settings}

@@ -19,15 +19,15 @@ use Rattle.wire.proofs.Reals.{pattern-back}
 use Rattle.settings.specs.Refusals.{refusal}
 use Rattle.settings.specs.Alarm.{onHH, onH, onL, onLL}
 use Rattle.settings.specs.Rules.{nonNegative, limitsInRange, durationInRange, inRange, ordered, rising, lowOf, highOf, banded, apart}
-use Rattle.reader.specs.Record.{digitalAlarm, digitalRecord, severitiesAt, limitsAt, analogAlarm, analogRecord, sizeOf, recordAt}
+use Rattle.settings_record.specs.Record.{digitalAlarm, digitalRecord, severitiesAt, limitsAt, analogAlarm, analogRecord, sizeOf, recordAt}
 use Rattle.image.specs.Internal.Write.{severityWords, limitWords, digitalBytes, analogBytes, kindBytes, recordBytes}
 use Rattle.settings.specs.Internal.Sound.{Bounded, Rising, Banded, Sound}
 use Rattle.settings.specs.declared.types.Limits.{Limits}
 use Rattle.settings.specs.declared.types.Alarm.{Alarm}
 use Rattle.settings.specs.declared.types.Form.{Form}
 use Rattle.settings.specs.declared.types.Form.the-variants.{Digital as DigitalForm, Analog as AnalogForm}
-use Rattle.reader.specs.declared.record.Record.{Record}
-use Rattle.reader.specs.declared.record.Record.the-variants.{Alarm as Recorded, Refused as NoRecord}
+use Rattle.settings_record.specs.declared.record.Record.{Record}
+use Rattle.settings_record.specs.declared.record.Record.the-variants.{Alarm as Recorded, Refused as NoRecord}
 use Rattle.settings.specs.declared.reply.Refusal.{Refusal}
 
 -- ---- tests taken apart

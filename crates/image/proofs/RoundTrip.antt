@@ -16,7 +16,7 @@ use Rattle.wire.specs.Number.{part}
 use Rattle.wire.proofs.Laws.{part-suc, part-add}
 use Rattle.settings.specs.Alarm.{blank, blanks}
 use Rattle.reader.specs.Count.{countAt}
-use Rattle.reader.specs.Record.{recordAt, sizeOf}
+use Rattle.settings_record.specs.Record.{recordAt, sizeOf}
 use Rattle.reader.specs.Section.{recordsFrom, sectionAt, onRecord, onCount}
 use Rattle.reader.specs.Read.{readOf, restOf, onSection, refusedBy}
 use Rattle.image.specs.Internal.Write.{recordsBytes, sectionBytes, imageOf, hasRoom, writtenOf, imageBuffer}
@@ -29,8 +29,8 @@ use Rattle.settings.specs.declared.types.Form.the-variants.{Digital as DigitalF
 use Rattle.settings.specs.declared.reply.Refusal.{Refusal}
 use Rattle.reader.specs.declared.count.Count.{Count}
 use Rattle.reader.specs.declared.count.Count.the-variants.{Alarms, Refused as NoCount}
-use Rattle.reader.specs.declared.record.Record.{Record}
-use Rattle.reader.specs.declared.record.Record.the-variants.{Alarm as Recorded, Refused as NoRecord}
+use Rattle.settings_record.specs.declared.record.Record.{Record}
+use Rattle.settings_record.specs.declared.record.Record.the-variants.{Alarm as Recorded, Refused as NoRecord}
 use Rattle.reader.specs.declared.section.Filled.{Filled}
 use Rattle.reader.specs.declared.section.Section.{Section}
 use Rattle.reader.specs.declared.section.Section.the-variants.{Read, Refused}

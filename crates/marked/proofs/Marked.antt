@@ -18,7 +18,7 @@ use Rattle.condition.specs.Event.{eventBytes, logBytes}
 use Rattle.level.specs.Level.{met, frees}
 use Rattle.level.specs.Rate.{newRate, sampleAfter}
 use Rattle.reader.specs.Count.{countAt}
-use Rattle.reader.specs.Record.{digitalAlarm, digitalRecord, severitiesAt, limitsAt, analogAlarm, analogRecord, recordAt}
+use Rattle.settings_record.specs.Record.{digitalAlarm, digitalRecord, severitiesAt, limitsAt, analogAlarm, analogRecord, recordAt}
 use Rattle.reader.specs.Section.{recordsFrom, sectionAt}
 use Rattle.reader.specs.Read.{restOf, readOf}
 use Rattle.scan_record.specs.Entry.{digitalEntry, analogEntry}

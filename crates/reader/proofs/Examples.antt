@@ -7,7 +7,7 @@ use Rattle.wire.specs.Number.{value}
 use Rattle.settings.specs.Alarm.{blank, blanks, empty}
 use Rattle.settings.specs.Refusals.{refusal}
 use Rattle.reader.specs.Count.{countAt}
-use Rattle.reader.specs.Record.{recordAt, digitalRecord, digitalAlarm}
+use Rattle.settings_record.specs.Record.{recordAt, digitalRecord, digitalAlarm}
 use Rattle.reader.specs.Section.{sectionAt, recordsFrom}
 use Rattle.reader.specs.Read.{readOf, restOf}
 use Rattle.settings.specs.declared.types.Kind.the-variants.{Digital}

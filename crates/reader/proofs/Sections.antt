@@ -10,15 +10,15 @@ use borrow.Author.Tests.{ltb-true, leb-true}
 use lib.Dec.{leb, ltb}
 use Rattle.settings.specs.Refusals.{refusal}
 use Rattle.reader.specs.Count.{countAt}
-use Rattle.reader.specs.Record.{recordAt}
+use Rattle.settings_record.specs.Record.{recordAt}
 use Rattle.reader.specs.Section.{recordsFrom, sectionAt, onRecord, onCount}
 use Rattle.settings.specs.declared.types.Alarm.{Alarm}
 use Rattle.settings.specs.declared.types.Form.{Form}
 use Rattle.settings.specs.declared.reply.Refusal.{Refusal}
 use Rattle.reader.specs.declared.count.Count.{Count}
 use Rattle.reader.specs.declared.count.Count.the-variants.{Alarms, Refused as NoCount}
-use Rattle.reader.specs.declared.record.Record.{Record}
-use Rattle.reader.specs.declared.record.Record.the-variants.{Alarm as Recorded, Refused as NoRecord}
+use Rattle.settings_record.specs.declared.record.Record.{Record}
+use Rattle.settings_record.specs.declared.record.Record.the-variants.{Alarm as Recorded, Refused as NoRecord}
 use Rattle.reader.specs.declared.section.Filled.{Filled}
 use Rattle.reader.specs.declared.section.Section.the-variants.{Read, Refused}
 

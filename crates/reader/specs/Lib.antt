@@ -1,4 +1,3 @@
 pub mod Count
-pub mod Record
 pub mod Section
 pub mod Read

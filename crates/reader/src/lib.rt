@@ -1,5 +1,4 @@
-// The reader of a settings image: counts, records, sections, the whole.
+// The reader of a settings image: counts, sections, the whole.
 pub mod count;
 pub mod read;
-pub mod record;
 pub mod section;

@@ -4,11 +4,11 @@ ghost use Prim.Native.Nat.{_+_, _-_, _≤_};
 ghost use Rattle.reader.specs.Section.{recordsFrom, sectionAt};
 use crate::count::Count;
 use crate::count::count_at;
-use crate::record::Record;
-use crate::record::record_at;
 use settings::reply::Refusal;
 use settings::types::Alarm;
 use settings::types::Form;
+use settings_record::record::Record;
+use settings_record::record::record_at;
 
 // How many alarms the section has and the offset past it, or the first refusal in it.
 pub enum Section {

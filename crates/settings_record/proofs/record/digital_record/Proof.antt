@@ -1,10 +1,10 @@
--- `reader::record::digital_record` meets its contract: each return takes the case that its tests led to. Assumes nothing.
+-- `settings_record::record::digital_record` meets its contract: each return takes the case that its tests led to. Assumes nothing.
 use borrow.Author.Needs.{needs}
 use mathlib.Core.Path.{_∙_}
-use Rattle.reader.specs.Record.{digitalRecord, digitalAlarm}
+use Rattle.settings_record.specs.Record.{digitalRecord, digitalAlarm}
 use borrow.Author.Tests.{le-ltb, lt-ltb, le-leb, lt-leb}
-use Rattle.reader.proofs.record.digital_record.Statement.{statement}
-use Rattle.reader.proofs.record.digital_record.Tie as tie
+use Rattle.settings_record.proofs.record.digital_record.Statement.{statement}
+use Rattle.settings_record.proofs.record.digital_record.Tie as tie
 
 returns : tie.Need-returns
 unfolding digitalRecord digitalAlarm

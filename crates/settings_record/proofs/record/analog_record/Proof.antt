@@ -1,10 +1,10 @@
--- `reader::record::analog_record` meets its contract: each return takes the case that its tests led to. Assumes nothing.
+-- `settings_record::record::analog_record` meets its contract: each return takes the case that its tests led to. Assumes nothing.
 use borrow.Author.Needs.{needs}
 use mathlib.Core.Path.{_∙_}
-use Rattle.reader.specs.Record.{analogRecord, analogAlarm}
+use Rattle.settings_record.specs.Record.{analogRecord, analogAlarm}
 use borrow.Author.Tests.{le-ltb, lt-ltb, not-true, not-false}
-use Rattle.reader.proofs.record.analog_record.Statement.{statement}
-use Rattle.reader.proofs.record.analog_record.Tie as tie
+use Rattle.settings_record.proofs.record.analog_record.Statement.{statement}
+use Rattle.settings_record.proofs.record.analog_record.Tie as tie
 
 returns : tie.Need-returns
 unfolding analogRecord analogAlarm

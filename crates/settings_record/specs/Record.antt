@@ -15,8 +15,8 @@ use Rattle.settings.specs.declared.types.Alarm.{Alarm}
 use Rattle.settings.specs.declared.types.Kind.the-variants.{Digital, Analog}
 use Rattle.settings.specs.declared.types.Form.{Form}
 use Rattle.settings.specs.declared.types.Form.the-variants.{Digital as DigitalForm, Analog as AnalogForm}
-use Rattle.reader.specs.declared.record.Record.{Record}
-use Rattle.reader.specs.declared.record.Record.the-variants.{Alarm as Read, Refused}
+use Rattle.settings_record.specs.declared.record.Record.{Record}
+use Rattle.settings_record.specs.declared.record.Record.the-variants.{Alarm as Read, Refused}
 
 -- digital, 9 bytes: flags, Severity, MinDuration
 unfoldable pub digitalAlarm : List ℕ → ℕ → Alarm

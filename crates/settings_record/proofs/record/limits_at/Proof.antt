@@ -1,8 +1,8 @@
--- `reader::record::limits_at` meets its contract: seven REALs. Assumes nothing.
+-- `settings_record::record::limits_at` meets its contract: seven REALs. Assumes nothing.
 use borrow.Author.Needs.{needs}
-use Rattle.reader.specs.Record.{limitsAt}
-use Rattle.reader.proofs.record.limits_at.Statement.{statement}
-use Rattle.reader.proofs.record.limits_at.Tie as tie
+use Rattle.settings_record.specs.Record.{limitsAt}
+use Rattle.settings_record.proofs.record.limits_at.Statement.{statement}
+use Rattle.settings_record.proofs.record.limits_at.Tie as tie
 
 returns : tie.Need-returns
 unfolding limitsAt

@@ -1,8 +1,8 @@
--- `reader::record::severities_at` meets its contract: six words. Assumes nothing.
+-- `settings_record::record::severities_at` meets its contract: six words. Assumes nothing.
 use borrow.Author.Needs.{needs}
-use Rattle.reader.specs.Record.{severitiesAt}
-use Rattle.reader.proofs.record.severities_at.Statement.{statement}
-use Rattle.reader.proofs.record.severities_at.Tie as tie
+use Rattle.settings_record.specs.Record.{severitiesAt}
+use Rattle.settings_record.proofs.record.severities_at.Statement.{statement}
+use Rattle.settings_record.proofs.record.severities_at.Tie as tie
 
 returns : tie.Need-returns
 unfolding severitiesAt

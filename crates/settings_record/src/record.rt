@@ -3,7 +3,7 @@ ghost use mathlib.Core.Path.{_≡_};
 ghost use Prim.Native.Nat.{_+_, _≤_};
 ghost use lib.ListN.{length};
 ghost use Rattle.settings.specs.Refusals.{refusal};
-ghost use Rattle.reader.specs.Record.{limitsAt, severitiesAt, digitalRecord, analogRecord, sizeOf, recordAt};
+ghost use Rattle.settings_record.specs.Record.{limitsAt, severitiesAt, digitalRecord, analogRecord, sizeOf, recordAt};
 use settings::refusals::INCOMPLETE;
 use settings::refusals::OUT_OF_RANGE;
 use settings::refusals::UNKNOWN_FLAG;

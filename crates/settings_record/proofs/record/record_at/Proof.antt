@@ -1,6 +1,6 @@
--- `reader::record::record_at` meets its contract: a record that is there whole is read as its form says. Assumes nothing.
+-- `settings_record::record::record_at` meets its contract: a record that is there whole is read as its form says. Assumes nothing.
 use borrow.Author.Needs.{needs}
-use Rattle.reader.specs.Record.{sizeOf}
+use Rattle.settings_record.specs.Record.{sizeOf}
 use mathlib.Core.Bool.{true}
 use lib.Dec.{leb}
 use denote.Ref.{now}
@@ -9,11 +9,11 @@ use Prim.Native.Nat.{_+_}
 use native.Mathlib.Omega.{arith}
 use mathlib.Core.Path.{_≡_, sym, ap, _∙_}
 use borrow.Author.Tests.{le-leb, leb-true, not-true, not-false}
-use Rattle.reader.specs.Record.{recordAt}
+use Rattle.settings_record.specs.Record.{recordAt}
 use mathlib.Core.Path.{sym, _∙_}
 use borrow.Author.Tests.{leb-true, not-true, not-false}
-use Rattle.reader.proofs.record.record_at.Statement.{statement}
-use Rattle.reader.proofs.record.record_at.Tie as tie
+use Rattle.settings_record.proofs.record.record_at.Statement.{statement}
+use Rattle.settings_record.proofs.record.record_at.Tie as tie
 
 returns : tie.Need-returns
 unfolding recordAt

@@ -1,0 +1,2 @@
+// An alarm's record in a settings image.
+pub mod record;
