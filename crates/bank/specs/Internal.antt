@@ -1,4 +1,3 @@
 -- What contracts and proofs use and a reader need not believe.
 pub mod Bank
-pub mod Parts
 pub mod Scan

@@ -1,7 +1,6 @@
 // Scans with lent buffers.
 ghost use Prim.Native.Nat.{_≤_};
 use bank::bank::Bank;
-use bank::parts::Answer;
 use bank::scan::scan;
 use bank_text::same::is_same;
 use call_text::lent::changed_from;
@@ -16,6 +15,7 @@ use case_text::parse::begins_with;
 use drive_text::lines::add_events;
 use drive_text::output::flush;
 use drive_text::output::open;
+use scan_parts::parts::Answer;
 
 // What came of a scan whose buffer is the front of `lent`. `front` has the events that it should write; `is_next` says that it
 // handed back the bank after the scan, `is_old` the one before.

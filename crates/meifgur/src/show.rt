@@ -1,6 +1,5 @@
 // What a bank's calls answer, as lines.
 use bank::bank::Bank;
-use bank::parts::Answer;
 use drive_text::lines::add_end;
 use drive_text::lines::add_events;
 use drive_text::lines::add_refusal;
@@ -9,6 +8,7 @@ use drive_text::output::flush;
 use drive_text::output::open;
 use report::report::report;
 use report::status::Status;
+use scan_parts::parts::Answer;
 use settings::reply::Reply;
 
 // Adds the events of a scan, which stand in `events`, or its refusal.

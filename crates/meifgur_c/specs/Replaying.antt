@@ -5,8 +5,8 @@ use mathlib.Core.List.{List, [], _∷_, _++_}
 use lib.Dec.{leb, ltb}
 use lib.ListN.{length, drop}
 use Rattle.settings.specs.declared.reply.Refusal.{Refusal}
+use Rattle.scan_parts.specs.Internal.Parts.{onReply}
 use Rattle.bank.specs.Internal.Bank.{loadOf}
-use Rattle.bank.specs.Internal.Scan.{onReply}
 use Rattle.bank.specs.declared.bank.Bank.{Bank}
 use Rattle.replay.specs.Replay.{Run, replayOf}
 use Rattle.replay.specs.declared.replay.Replayed.{Replayed}

@@ -10,7 +10,7 @@ use Rattle.settings.specs.declared.types.Settings.{Settings}
 use Rattle.image.specs.Internal.Write.{writtenOf, imageBuffer}
 use Rattle.image.specs.declared.write.Written.{Written}
 use Rattle.image.specs.declared.write.Written.the-variants.{Length, Refused}
-use Rattle.bank.specs.Internal.Scan.{onReply}
+use Rattle.scan_parts.specs.Internal.Parts.{onReply}
 
 pub record Rewritten : Type 0 where
   pub code : ℕ

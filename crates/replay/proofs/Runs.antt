@@ -12,11 +12,11 @@ use lib.ListN.{length, take, drop, length-append, length-take, length-drop, drop
 use lib.Seq.{take-all}
 use Rattle.scan_record.specs.Part.{recordSize}
 use Rattle.scan_record.specs.Internal.Size.{lengthOf}
+use Rattle.scan_parts.specs.declared.parts.Answer.{Answer}
+use Rattle.scan_parts.specs.declared.parts.Answer.the-variants.{Events, Refused}
 use Rattle.bank.specs.Internal.Scan.{scanOf, eventBuffer}
 use Rattle.bank.specs.declared.bank.Bank.{Bank}
 use Rattle.bank.specs.declared.scan.Scanned.{Scanned}
-use Rattle.bank.specs.declared.parts.Answer.{Answer}
-use Rattle.bank.specs.declared.parts.Answer.the-variants.{Events, Refused}
 use Rattle.bank.proofs.Fits.{fits, buffer-length}
 use Rattle.replay.specs.Replay.{sizeFor, recordAt, recordsIn, counted, tallyOf, start, byAnswer, Run, usedOf, leftOf, onward, runOf, replayOf}
 use Rattle.replay.specs.declared.replay.Replayed.{Replayed}

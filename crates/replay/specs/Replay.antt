@@ -7,10 +7,10 @@ use lib.ListN.{length, take, drop}
 use Rattle.settings.specs.declared.types.Settings.{Settings}
 use Rattle.alarm.specs.declared.state.State.{State}
 use Rattle.scan_record.specs.Internal.Size.{lengthOf}
+use Rattle.scan_parts.specs.declared.parts.Answer.{Answer}
+use Rattle.scan_parts.specs.declared.parts.Answer.the-variants.{Events, Refused}
 use Rattle.bank.specs.Internal.Scan.{scanOf, eventBuffer}
 use Rattle.bank.specs.declared.bank.Bank.{Bank}
-use Rattle.bank.specs.declared.parts.Answer.{Answer}
-use Rattle.bank.specs.declared.parts.Answer.the-variants.{Events, Refused}
 use Rattle.replay.specs.declared.replay.Replayed.{Replayed}
 use Rattle.replay.specs.declared.replay.Tally.{Tally}
 

@@ -7,15 +7,15 @@ use lib.ListN.{length, drop}
 use Rattle.settings.specs.Refusals.{eventsTooLong}
 use Rattle.settings.specs.declared.reply.Refusal.{Refusal}
 use Rattle.settings.specs.declared.reply.Reply.{Reply}
-use Rattle.settings.specs.declared.reply.Reply.the-variants.{Accepted, Refused as RefusedBy}
 use Rattle.condition.specs.Event.{Event, logBytes}
 use Rattle.scan_record.specs.Part.{timeOf}
 use Rattle.scan_record.specs.Check.{checkRecord}
 use Rattle.marks.specs.Internal.Marks.{markAlarms}
 use Rattle.steps.specs.Internal.Plan.{Plan, planOf, eventsUpTo}
+use Rattle.scan_parts.specs.Internal.Parts.{onReply}
+use Rattle.scan_parts.specs.declared.parts.Answer.the-variants.{Events, Refused}
 use Rattle.bank.specs.declared.bank.Bank.{Bank}
 use Rattle.bank.specs.declared.scan.Scanned.{Scanned}
-use Rattle.bank.specs.declared.parts.Answer.the-variants.{Events, Refused}
 
 -- 7, 8, then each alarm in number order 9, 10, 11
 abbrev pub checkOf : Bank → List ℕ → Reply
@@ -62,10 +62,6 @@ checkedScan b rec room =
 unfoldable pub checkedBuffer : Bank → List ℕ → List ℕ → List ℕ
 checkedBuffer b rec out =
     cond (tooShort b rec (length out)) out (logBytes (eventsIn b rec) ++ drop (length (logBytes (eventsIn b rec))) out)
-
-abbrev pub onReply : {X : Type 0} → Reply → X → (Refusal → X) → X
-onReply Accepted x f = x
-onReply (RefusedBy r) x f = f r
 
 -- a scan
 unfoldable pub scanOf : Bank → List ℕ → ℕ → Scanned

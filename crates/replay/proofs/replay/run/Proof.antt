@@ -5,7 +5,7 @@ use Prim.Native.Nat.{_-_, _*_}
 use native.Mathlib.Omega.{arith}
 use denote.Ref.{now}
 use lib.ListN.{length, take, drop}
-use Rattle.bank.proofs.PartLaws.{checked-says, checked-most}
+use Rattle.scan_parts.proofs.PartLaws.{checked-says, checked-most}
 use Rattle.bank.proofs.Scans.{ran}
 use Rattle.replay.proofs.Runs.{Going, going-first, least, has-room, same-length as buffer-kept, few-refused, few-records, answer-fits, onward-done, onward-buffer, going-next, going-end}
 use Rattle.replay.specs.Replay.{bankIn, withBank}

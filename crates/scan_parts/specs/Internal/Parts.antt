@@ -5,16 +5,21 @@ use mathlib.Core.Bool.{cond}
 use lib.Dec.{ltb}
 use lib.ListN.{length}
 use Rattle.settings.specs.Refusals.{eventsTooLong}
+use Rattle.settings.specs.declared.reply.Refusal.{Refusal}
 use Rattle.settings.specs.declared.reply.Reply.{Reply}
 use Rattle.settings.specs.declared.reply.Reply.the-variants.{Accepted, Refused as RefusedBy}
 use Rattle.scan_record.specs.Part.{timeOf}
-use Rattle.bank.specs.declared.parts.Answer.{Answer}
-use Rattle.bank.specs.declared.parts.Answer.the-variants.{Events, Refused}
+use Rattle.scan_parts.specs.declared.parts.Answer.{Answer}
+use Rattle.scan_parts.specs.declared.parts.Answer.the-variants.{Events, Refused}
 
 -- what holds of a record that passed the check
 abbrev pub WhenAccepted : Reply → Type 0 → Type 0
 WhenAccepted Accepted P = P
 WhenAccepted (RefusedBy r) P = Unit {0}
+
+abbrev pub onReply : {X : Type 0} → Reply → X → (Refusal → X) → X
+onReply Accepted x f = x
+onReply (RefusedBy r) x f = f r
 
 -- the time of a record; of one that is too short for a time, the last scan's
 unfoldable pub timeIn : List ℕ → ℕ → ℕ
