@@ -18,7 +18,7 @@ use Rattle.bank.specs.Internal.Scan.{scanOf, eventBuffer}
 use Rattle.bank.specs.declared.bank.Bank.{Bank}
 use Rattle.bank.specs.declared.scan.Scanned.{Scanned}
 use Rattle.bank.proofs.Fits.{fits, buffer-length}
-use Rattle.replay.specs.Replay.{sizeFor, recordAt, recordsIn, counted, tallyOf, start, byAnswer, Run, usedOf, leftOf, onward, runOf, replayOf}
+use Rattle.replay.specs.Replay.{sizeFor, driveRecord, recordsIn, counted, tallyOf, start, byAnswer, Progress, usedOf, leftOf, onward, progressAfter, replayOf}
 use Rattle.replay.specs.declared.replay.Replayed.{Replayed}
 
 -- a record has at least its time
@@ -87,23 +87,23 @@ module _ (d : Replayed) (buffer : List ℕ) (i : ℕ) (rec : List ℕ) where
 -- ---- the first records
 
 module _ (b : Bank) (bytes out : List ℕ) where
-  run-next : (n : ℕ) → runOf b bytes out (n + 1) ≡ onward (runOf b bytes out n .done) (runOf b bytes out n .buffer) n (recordAt (sizeFor b) bytes n)
-  unfolding runOf
+  run-next : (n : ℕ) → progressAfter b bytes out (n + 1) ≡ onward (progressAfter b bytes out n .done) (progressAfter b bytes out n .buffer) n (driveRecord (sizeFor b) bytes n)
+  unfolding progressAfter
   run-next n = rw (add-one n)
 
   -- what holds after the first n records
   pub record Kept (n : ℕ) : Type 0 where
-    pub same : length (runOf b bytes out n .buffer) ≡ length out
-    pub room : 16 * runOf b bytes out n .done .events ≤ length out
-    pub few : runOf b bytes out n .done .refused ≤ n
+    pub same : length (progressAfter b bytes out n .buffer) ≡ length out
+    pub room : 16 * progressAfter b bytes out n .done .events ≤ length out
+    pub few : progressAfter b bytes out n .done .refused ≤ n
 
   pub kept : (n : ℕ) → Kept n
-  unfolding runOf
+  unfolding progressAfter
   kept zero = record { same = refl; room = omega arith; few = omega arith }
   kept (suc n) =
       let k = kept n in
-      let r = runOf b bytes out n in
-      let rec = recordAt (sizeFor b) bytes n in
+      let r = progressAfter b bytes out n in
+      let rec = driveRecord (sizeFor b) bytes n in
       record {
         same = onward-length (r .done) (r .buffer) n rec ∙ k .same;
         room = omega (arith, onward-fits (r .done) (r .buffer) n rec (omega arith), k .same);
@@ -123,10 +123,10 @@ module _ (size : ℕ) (bytes : List ℕ) (least : 8 ≤ size) where
 
   -- what is lent from where a record begins to where it ends
   record-here : (i e : ℕ) → size * i < length bytes → e ≡ min (size * i + size) (length bytes)
-      → take (e - size * i) (drop (size * i) bytes) ≡ recordAt size bytes i
+      → take (e - size * i) (drop (size * i) bytes) ≡ driveRecord size bytes i
   record-here i e l h = go (leb (size * i + size) (length bytes)) refl
     where
-      go : (t : Bool) → leb (size * i + size) (length bytes) ≡ t → take (e - size * i) (drop (size * i) bytes) ≡ recordAt size bytes i
+      go : (t : Bool) → leb (size * i + size) (length bytes) ≡ t → take (e - size * i) (drop (size * i) bytes) ≡ driveRecord size bytes i
       go true k = let n : e - size * i ≡ size = omega (arith, leb-true (size * i + size) (length bytes) k) in rw n
       go false k =
           let m = length-drop (size * i) bytes in
@@ -138,11 +138,11 @@ pub record Going (b : Bank) (bytes out : List ℕ) (size : ℕ) (d : Replayed) (
   pub sized : size ≡ sizeFor b
   pub begins : at ≡ min (size * i) (length bytes)
   pub begun : size * i < length bytes + size
-  pub done : d ≡ runOf b bytes out i .done
-  pub written : buffer ≡ runOf b bytes out i .buffer
+  pub done : d ≡ progressAfter b bytes out i .done
+  pub written : buffer ≡ progressAfter b bytes out i .buffer
 
 pub going-first : (b : Bank) (bytes out : List ℕ) → Going b bytes out (sizeFor b) (start b) out 0 0
-unfolding runOf
+unfolding progressAfter
 going-first b bytes out =
     record {
       sized = refl;
@@ -175,17 +175,17 @@ module _ {b : Bank} {bytes out : List ℕ} {size : ℕ} {d : Replayed} {buffer :
   going-next {e} l h p q =
       let here : at ≡ size * i = omega (arith, g .begins) in
       let next : size * (i + 1) ≡ size * i + size = ap (λ (n : ℕ). size * n) (add-one i) ∙ mul-suc size i in
-      let rec : take (e - at) (drop at bytes) ≡ recordAt (sizeFor b) bytes i = rw here (record-here size bytes least i e (omega arith) (omega arith)) ∙ ap (λ (n : ℕ). recordAt n bytes i) (g .sized) in
-      let same : onward d buffer i (take (e - at) (drop at bytes)) ≡ runOf b bytes out (i + 1) = (λ j. onward (g .done j) (g .written j) i (rec j)) ∙ sym (run-next b bytes out i) in
+      let rec : take (e - at) (drop at bytes) ≡ driveRecord (sizeFor b) bytes i = rw here (record-here size bytes least i e (omega arith) (omega arith)) ∙ ap (λ (n : ℕ). driveRecord n bytes i) (g .sized) in
+      let same : onward d buffer i (take (e - at) (drop at bytes)) ≡ progressAfter b bytes out (i + 1) = (λ j. onward (g .done j) (g .written j) i (rec j)) ∙ sym (run-next b bytes out i) in
       record {
         sized = g .sized;
         begins = omega (arith, least);
         begun = omega (arith, least);
-        done = p ∙ ap (λ (r : Run). r .done) same;
-        written = q ∙ ap (λ (r : Run). r .buffer) same;
+        done = p ∙ ap (λ (r : Progress). r .done) same;
+        written = q ∙ ap (λ (r : Progress). r .buffer) same;
       }
 
   pub going-end : length bytes ≤ at → (d ≡ replayOf b bytes out .done) × (buffer ≡ replayOf b bytes out .buffer)
   going-end h =
       let n : i ≡ recordsIn (sizeFor b) bytes = all-passed size bytes least i (omega (arith, g .begins)) (g .begun) ∙ ap (λ (n : ℕ). recordsIn n bytes) (g .sized) in
-      (g .done ∙ ap (λ (k : ℕ). runOf b bytes out k .done) n, g .written ∙ ap (λ (k : ℕ). runOf b bytes out k .buffer) n)
+      (g .done ∙ ap (λ (k : ℕ). progressAfter b bytes out k .done) n, g .written ∙ ap (λ (k : ℕ). progressAfter b bytes out k .buffer) n)

@@ -19,8 +19,8 @@ abbrev pub sizeFor : Bank → ℕ
 sizeFor b = lengthOf (b .settings .digital) (b .settings .analog)
 
 -- the record with an index, from 0; the last one may be shorter
-abbrev pub recordAt : ℕ → List ℕ → ℕ → List ℕ
-recordAt size bytes i = take size (drop (size * i) bytes)
+abbrev pub driveRecord : ℕ → List ℕ → ℕ → List ℕ
+driveRecord size bytes i = take size (drop (size * i) bytes)
 
 -- how many records there are; a shorter rest is one
 abbrev pub recordsIn : ℕ → List ℕ → ℕ
@@ -61,7 +61,7 @@ abbrev pub byAnswer : Replayed → ℕ → Bank → Answer → Replayed
 byAnswer d i b a = withBank b (counted (tallyOf d) a i)
 
 -- what is known after some records, and the event buffer then
-pub record Run : Type 0 where
+pub record Progress : Type 0 where
   pub done : Replayed
   pub buffer : List ℕ
 
@@ -74,7 +74,7 @@ abbrev pub leftOf : Replayed → List ℕ → List ℕ
 leftOf d buffer = drop (16 * d .events) buffer
 
 -- one more record, with index i: a scan that is lent what is left of the buffer
-unfoldable pub onward : Replayed → List ℕ → ℕ → List ℕ → Run
+unfoldable pub onward : Replayed → List ℕ → ℕ → List ℕ → Progress
 onward d buffer i rec =
     let s = scanOf (d .bank) rec (length (leftOf d buffer)) in
     record {
@@ -83,12 +83,12 @@ onward d buffer i rec =
     }
 
 -- after the first n records
-unfoldable pub runOf : Bank → List ℕ → List ℕ → ℕ → Run
-runOf b bytes out zero = record { done = start b; buffer = out }
-runOf b bytes out (suc n) =
-    let r = runOf b bytes out n in
-    onward (r .done) (r .buffer) n (recordAt (sizeFor b) bytes n)
+unfoldable pub progressAfter : Bank → List ℕ → List ℕ → ℕ → Progress
+progressAfter b bytes out zero = record { done = start b; buffer = out }
+progressAfter b bytes out (suc n) =
+    let r = progressAfter b bytes out n in
+    onward (r .done) (r .buffer) n (driveRecord (sizeFor b) bytes n)
 
 -- after all of them
-abbrev pub replayOf : Bank → List ℕ → List ℕ → Run
-replayOf b bytes out = runOf b bytes out (recordsIn (sizeFor b) bytes)
+abbrev pub replayOf : Bank → List ℕ → List ℕ → Progress
+replayOf b bytes out = progressAfter b bytes out (recordsIn (sizeFor b) bytes)

@@ -1,0 +1,23 @@
+-- `drive::replaying::put_done` meets its contract: eight words stored to the front stand in front of the rest. Assumes nothing.
+use borrow.Author.Needs.{needs}
+use mathlib.Core.Path.{_∙_}
+use denote.Ref.{now}
+use mathlib.Core.List.{[], _∷_}
+use Rattle.host_bytes.proofs.Stores.{front}
+use Rattle.drive.proofs.replaying.put_done.Statement.{statement}
+use Rattle.drive.proofs.replaying.put_done.Tie as tie
+
+returns : tie.Need-returns
+returns c =
+    let a = c .before .before .before .before .before .before .before .before .before .before .args in
+    c .before .before .put-four2 .ensures ∙ rw (c .before .before .before .before .before .before .before .put-four .ensures) (front (now (a .answer)) (0 ∷ 0 ∷ a .done .events ∷ a .done .refused ∷ a .done .number ∷ a .done .place ∷ a .done .index ∷ a .alarms ∷ []) (c .before .before .before .before .before .before .before .before .before .before .pre))
+
+pub put-done-spec : {M : Type 1} → statement M
+put-done-spec =
+    tie.close
+    (tie.spec
+    (λ c κs. search needs)
+    (λ c. search needs)
+    (λ c κs. search needs)
+    (λ c. search needs)
+    returns)

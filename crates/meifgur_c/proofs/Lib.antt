@@ -1,4 +1,0 @@
-pub mod Stores
-pub mod Joined
-pub mod Rewrites
-pub mod Replays

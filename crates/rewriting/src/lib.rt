@@ -1,0 +1,2 @@
+// A settings image checked and written back, for a host.
+pub mod rewrite;
