@@ -20,7 +20,6 @@ use Rattle.level.specs.Level.{met, frees}
 use Rattle.level.specs.Rate.{sampleAfter}
 use Rattle.level.specs.declared.rate.Sample.{Sample}
 use Rattle.condition.specs.Command.{resets, acks, faults}
-use Rattle.condition.specs.Internal.Mark.{Turn}
 use Rattle.alarm.specs.Internal.Held.{Six, HH, H, L, LL, ROCPos, ROCNeg, Side, High, Low, ofSix, AnalogHeld}
 use Rattle.alarm.specs.Internal.Analog.{analogRequired, analogEnabled, sideMet, analogReady, analogTold, analogAfter, cellEvents, analogEvents}
 use Rattle.alarm_history.specs.Scans.{Scan, previous, enabled, countReset, disabledIn, suppressedIn}

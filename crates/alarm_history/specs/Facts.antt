@@ -1,7 +1,7 @@
 -- What the scans say of an alarm of given settings.
-use Prim.Native.Nat.{ℕ, _-_}
+use Prim.Native.Nat.{_-_}
 use mathlib.Core.List.{List, [], _∷_}
-use mathlib.Core.Bool.{Bool, not, _&&_, _||_}
+use mathlib.Core.Bool.{not, _&&_, _||_}
 use lib.Dec.{leb}
 use Rattle.settings.specs.Alarm.{ackRequired, periodOf}
 use Rattle.settings.specs.Condition.{Condition, sideHas, isRate}

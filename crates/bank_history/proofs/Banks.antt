@@ -7,7 +7,7 @@ use native.Mathlib.Omega.{arith}
 use lib.ListN.{length, getD, replicate, length-replicate, getD-replicate}
 use Rattle.wire.specs.Bits.{bit}
 use Rattle.condition.specs.Internal.Mark.{marksAfter, timeStampAfter, noMarks}
-use Rattle.settings.specs.Alarm.{blank, ackRequired}
+use Rattle.settings.specs.Alarm.{ackRequired}
 use Rattle.settings.specs.Internal.Sound.{Sound}
 use Rattle.settings.specs.declared.types.Alarm.{Alarm}
 use Rattle.settings.specs.declared.types.Settings.{Settings}
@@ -19,8 +19,8 @@ use Rattle.settings.specs.declared.types.Form.the-variants.{Digital as DigitalF
 use Rattle.settings.specs.declared.reply.Reply.the-variants.{Accepted}
 use Rattle.image.specs.Internal.Accepted.{AcceptedFrom}
 use Rattle.alarm.specs.Internal.Held.{freshState, lookDigital, lookAnalog, runOf, cellOf, Six, HH, H, L, LL, ROCPos, ROCNeg, Side, High, Low, place}
-use Rattle.alarm.specs.Internal.Digital.{digitalRequired, digitalStep}
-use Rattle.alarm.specs.Internal.Analog.{analogRequired, analogStep}
+use Rattle.alarm.specs.Internal.Digital.{digitalStep}
+use Rattle.alarm.specs.Internal.Analog.{analogStep}
 use Rattle.alarm.specs.Internal.Step.{stepKind, stepOf}
 use Rattle.alarm.specs.declared.state.State.{State}
 use Rattle.alarm.specs.declared.state.Stepped.{Stepped}
@@ -208,7 +208,6 @@ module _ (image : List ℕ) (past : List (List ℕ)) (b : Bank) (rec : List ℕ)
       let e = digital-stepped p h in
       let l : p < alarmsOf b = omega arith in
       let first : 25 * p + 1 + 4 * 0 ≡ 25 * p + 1 = omega arith in
-      let r = digitalStep (alarm p) (stateAt b p) (seen p .reading) (seen p .word) (seen p .time) in
       subst (λ (s : State). DigitalView (alarm p) s marksNext (25 * p) (scansAt (b .settings) p (rec ∷ past)))
       (sym (state-after p l ∙ ap (λ (t : Stepped). t .state) e))
       (digital-view (alarm p) (stateAt b p) (seen p) (b .marks) marksNext (25 * p) (scansAt (b .settings) p past) (v .digital p h)

@@ -1,24 +1,22 @@
 -- The events of a record that passed the check are what settings and the accepted records say. Assumes nothing.
 use mathlib.Core.Path.{_≡_, refl, ap, ap₂, _∙_}
 use mathlib.Core.Bool.{Bool, true, false}
-use mathlib.Core.List.{List, [], _∷_, _++_}
-use Prim.Native.Nat.{ℕ, zero, suc, _+_, _*_, _≤_, _<_}
+use mathlib.Core.List.{List, _∷_, _++_}
+use Prim.Native.Nat.{ℕ, zero, suc, _≤_, _<_}
 use native.Mathlib.Omega.{arith}
 use native.Mathlib.Nat.{le-refl}
 use borrow.Author.Tests.{ltb-true, ltb-false}
 use lib.Dec.{ltb}
 use lib.ListN.{getD}
-use Rattle.wire.specs.Bits.{bit}
 use Rattle.settings.specs.declared.types.Alarm.{Alarm}
 use Rattle.settings.specs.declared.reply.Reply.the-variants.{Accepted}
 use Rattle.condition.specs.Event.{Event}
-use Rattle.alarm.specs.Internal.Held.{DigitalHeld, lookDigital, AnalogHeld, lookAnalog, freshState}
-use Rattle.alarm.specs.Internal.Digital.{digitalEvents, digitalStep}
-use Rattle.alarm.specs.Internal.Analog.{analogEvents, analogStep}
+use Rattle.alarm.specs.Internal.Held.{DigitalHeld, AnalogHeld, freshState}
+use Rattle.alarm.specs.Internal.Digital.{digitalEvents}
+use Rattle.alarm.specs.Internal.Analog.{analogEvents}
 use Rattle.alarm.specs.Internal.Events.{eventsFrom}
-use Rattle.alarm.specs.declared.state.State.{State}
 use Rattle.alarm.specs.declared.state.Stepped.{Stepped}
-use Rattle.alarm_history.specs.Scans.{Scan, suppressedIn}
+use Rattle.alarm_history.specs.Scans.{Scan}
 use Rattle.alarm_history.specs.Events.{alarmLog}
 use Rattle.alarm_history.proofs.Digital.{digital-required, digital-run}
 use Rattle.alarm_history.proofs.Analog.{analog-required, analog-run}
@@ -29,7 +27,7 @@ use Rattle.steps.proofs.Logs.{digital-log, analog-log}
 use Rattle.bank.specs.Internal.Scan.{checkOf, alarmsOf, planFor, eventsIn}
 use Rattle.bank.specs.declared.bank.Bank.{Bank}
 use Rattle.bank_history.specs.Answers.{alarmAt, scanAt, scansAt, scanLog, logOf}
-use Rattle.bank_history.proofs.Banks.{Kept, stateAt, digital-of, analog-of, digital-stepped, analog-stepped, state-after, word-after, next-kept}
+use Rattle.bank_history.proofs.Banks.{Kept, stateAt, digital-of, analog-of, digital-stepped, analog-stepped, word-after, next-kept}
 
 module _ (image : List ℕ) (past : List (List ℕ)) (b : Bank) (rec : List ℕ) (v : Kept image past b) (ok : checkOf b rec ≡ Accepted) where
   abbrev digital : ℕ
@@ -57,8 +55,6 @@ module _ (image : List ℕ) (past : List (List ℕ)) (b : Bank) (rec : List ℕ)
       let k = digital-of image past b rec v ok p h .1 in
       let q = digital-required (alarm p) k in
       let e = digital-stepped image past b rec v ok p h in
-      let r = digitalStep (alarm p) (stateAt b p) (seen p .reading) (seen p .word) (seen p .time) in
-      let s = state-after image past b rec v ok p l ∙ ap (λ (t : Stepped). t .state) e in
       let w = word-after image past b rec v ok p l ∙ ap (λ (t : Stepped). t .events) e in
       let was = v .digital p h .held ∙ digital-run (alarm p) q (before p) in
       let is = next-kept image past b rec v ok .digital p h .held ∙ digital-run (alarm p) q (seen p ∷ before p) in

@@ -2,11 +2,10 @@
 use mathlib.Core.Path.{_≡_, refl, sym, ap, ap₂, subst, _∙_}
 use mathlib.Core.Bool.{Bool, true, false, not, _||_, or-false}
 use mathlib.Core.List.{List, [], _∷_, _++_, map}
-use Prim.Native.Nat.{ℕ, _+_, _*_, _≤_, _<_}
+use Prim.Native.Nat.{ℕ, _*_, _<_}
 use lib.Dec.{ltb}
 use lib.ListN.{getD, take}
 use borrow.Author.Tests.{ltb-true, ltb-false}
-use Rattle.wire.specs.Real.{zeroReal}
 use Rattle.settings.specs.Condition as C
 use Rattle.settings.specs.Condition.{In, conditionsOf}
 use Rattle.settings.specs.declared.reply.Reply.the-variants.{Accepted}
@@ -15,16 +14,16 @@ use Rattle.settings.specs.declared.types.Limits.{Limits}
 use Rattle.settings.specs.declared.types.Severities.{Severities}
 use Rattle.settings.specs.declared.types.Kind.{Kind}
 use Rattle.settings.specs.declared.types.Kind.the-variants.{Digital, Analog}
-use Rattle.history.specs.Past.{Fact, holds, rowStart}
+use Rattle.history.specs.Past.{holds, rowStart}
 use Rattle.history.proofs.Condition.{kept-alarm, kept-unacked}
 use Rattle.condition.specs.Severity.{severityInvalid}
 use Rattle.condition.specs.Internal.Mark.{Marks}
-use Rattle.alarm.specs.Internal.Held.{Side, High, Low, Six, HH, H, L, LL, ROCPos, ROCNeg, ofSix, place, DigitalHeld, lookDigital, AnalogHeld, lookAnalog}
+use Rattle.alarm.specs.Internal.Held.{Six, HH, H, L, LL, ROCPos, ROCNeg, ofSix, place, DigitalHeld, lookDigital, AnalogHeld, lookAnalog}
 use Rattle.alarm.specs.declared.state.State.{State}
 use Rattle.alarm_history.specs.Scans.{Scan, disabledIn, suppressedIn, faultedIn, lastTime}
-use Rattle.alarm_history.specs.Facts.{sampleIn, freesIn, run, facts}
+use Rattle.alarm_history.specs.Facts.{sampleIn, freesIn, facts}
 use Rattle.alarm_history.specs.Stamps.{resetStamp}
-use Rattle.alarm_history.specs.Internal.After.{elapsed, digitalRun, digitalFrom, analogRun, analogFrom, own, marksIn}
+use Rattle.alarm_history.specs.Internal.After.{elapsed, digitalRun, digitalFrom, analogRun, analogFrom, marksIn}
 use Rattle.alarm_history.proofs.Marks.{clear, reset-stamp}
 use Rattle.alarm_history.proofs.Digital.{digital-required, digital-rate, run-own, digital-run, digital-report}
 use Rattle.alarm_history.proofs.Analog.{analog-required, analog-run, analog-report}
@@ -35,7 +34,6 @@ use Rattle.report.specs.Internal.Status.{digitalStatuses, analogStatuses, statu
 use Rattle.report.specs.Internal.Whole.{anyInvalid, digitalWhole, analogWhole, wholeKind, wholeOf}
 use Rattle.report.specs.Internal.Report.{reportAt}
 use Rattle.report.specs.declared.status.Status.{Status}
-use Rattle.report.specs.declared.whole.Whole.{Whole}
 use Rattle.report.specs.declared.report.AlarmReport.{AlarmReport}
 use Rattle.report.proofs.Reports.{status-digital, status-analog}
 use Rattle.bank_history.specs.Answers.{alarmAt, scanAt, scansAt, lastAccepted}

@@ -1,11 +1,11 @@
 -- The public statements hold. Assumes nothing.
 use mathlib.Core.Path.{_≡_, refl, sym, ap, ap₂, subst, _∙_}
 use mathlib.Core.Bool.{Bool, true, false, not, _&&_, cond}
-use mathlib.Core.List.{List, [], _∷_, _++_, map}
-use Prim.Native.Nat.{ℕ, zero, suc, _+_, _-_, _*_, _≤_, _<_}
+use mathlib.Core.List.{List, [], _++_, map}
+use Prim.Native.Nat.{ℕ, zero, suc, _+_, _-_, _≤_, _<_}
 use native.Mathlib.Omega.{arith}
-use borrow.Author.Tests.{le-leb, lt-leb, leb-true, leb-false, le-ltb}
-use lib.Dec.{T, leb}
+use borrow.Author.Tests.{le-leb, leb-true}
+use lib.Dec.{leb}
 use lib.ListN.{length, getD, take, drop}
 use Rattle.wire.proofs.Laws.{and-true}
 use Rattle.settings.specs.declared.types.Alarm.{Alarm}
@@ -19,7 +19,7 @@ use Rattle.history.specs.Demand.{inAlarm, unacknowledged, count}
 use Rattle.history.specs.Words.{Demand3}
 use Rattle.history.proofs.Demand.{demand}
 use Rattle.reader.specs.Read.{readOf}
-use Rattle.image.specs.Internal.Write.{imageOf, hasRoom, writtenOf, imageBuffer}
+use Rattle.image.specs.Internal.Write.{imageOf, writtenOf, imageBuffer}
 use Rattle.image.specs.declared.write.Written.the-variants.{Length, Refused}
 use Rattle.image.proofs.RoundTrip as RoundTrip
 use Rattle.scan_record.specs.Check.{checkRecord}
@@ -32,7 +32,7 @@ use Rattle.report.specs.Empty.{noStatus, noStatuses, noReport}
 use Rattle.report.specs.Internal.Report.{isThere, reportAt, reportOf}
 use Rattle.report.specs.declared.status.Status.{Status}
 use Rattle.report.specs.declared.report.AlarmReport.{AlarmReport}
-use Rattle.bank_history.specs.Calls.{Call, after}
+use Rattle.bank_history.specs.Calls.{Call}
 use Rattle.bank_history.specs.Answers.{alarmAt, scansAt, lastAccepted, answerTo, bufferAfter, isAccepted}
 use Rattle.bank_history.specs.Report.{statusOf, alarmReport, reportAfter}
 use Rattle.bank_history.specs.Statements.{Good, settings, bank, records, Replies, EveryReply, DemandThree, TwoReceivers}

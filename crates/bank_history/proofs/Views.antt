@@ -7,7 +7,7 @@ use lib.ListN.{getD}
 use Rattle.wire.specs.Bits.{bit}
 use Rattle.wire.proofs.WordLaws.{bit-word}
 use Rattle.condition.specs.Command.{countResets}
-use Rattle.condition.specs.Internal.Mark.{Marks, Turn, marksAfter, timeStampAfter}
+use Rattle.condition.specs.Internal.Mark.{Turn, marksAfter, timeStampAfter}
 use Rattle.settings.specs.declared.types.Alarm.{Alarm}
 use Rattle.alarm.specs.Internal.Held.{DigitalHeld, lookDigital, Six, HH, H, L, LL, ROCPos, ROCNeg, place, AnalogHeld, lookAnalog}
 use Rattle.alarm.specs.Internal.Digital.{digitalRequired, digitalAfter, digitalEvents, digitalStep}

@@ -2,7 +2,7 @@
 use Prim.Native.Nat.{ℕ, _+_, _-_, _≤_, _<_}
 use mathlib.Core.Path.{_≡_}
 use mathlib.Core.Bool.{true, not, cond}
-use mathlib.Core.List.{List, [], _∷_, _++_}
+use mathlib.Core.List.{List, [], _++_}
 use lib.Dec.{T, leb}
 use lib.ListN.{length, getD, drop}
 use lib.Pow.{areBytes}
@@ -21,7 +21,6 @@ use Rattle.bank.specs.Internal.Scan.{scanOf, eventBuffer}
 use Rattle.bank.specs.declared.bank.Bank.{Bank}
 use Rattle.report.specs.Empty.{noStatus}
 use Rattle.report.specs.Internal.Report.{reportOf}
-use Rattle.report.specs.declared.status.Status.{Status}
 use Rattle.bank_history.specs.Calls.{Call, after}
 use Rattle.bank_history.specs.Answers.{alarmAt, scansAt, lastAccepted, answerTo, bufferAfter, isAccepted, accepts, accepted}
 use Rattle.bank_history.specs.Report.{reportAfter}

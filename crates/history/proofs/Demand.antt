@@ -1,5 +1,5 @@
 -- Demand 3 of one condition: what the three descriptions compute is what they say in words. Assumes nothing.
-use mathlib.Core.Path.{_≡_, refl, sym, _∙_}
+use mathlib.Core.Path.{refl, sym, _∙_}
 use mathlib.Core.List.{List}
 use mathlib.Core.Bool.{Bool, and-eq-true-iff}
 use Rattle.history.specs.Past.{since, countFrom}

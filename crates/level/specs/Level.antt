@@ -1,6 +1,5 @@
 -- When a condition is met, and what else clears it. Comparisons and sums are in REAL. The rules match the decoded reading; one of the other
 -- kind, which no accepted record has, is neither the bit nor a level.
-use Prim.Native.Nat.{ℕ}
 use mathlib.Core.Bool.{Bool, true, false, not, _&&_, _||_, Bool·beq}
 use lib.Dec.{ltb}
 use lib.Ieee.{Float, binary32, lt, le, add, sub, neg}

@@ -1,6 +1,6 @@
 -- Settings images, scan records and what calls on them give, for the marked cases. Assumes nothing.
 use Prim.Native.Nat.{ℕ}
-use mathlib.Core.Bool.{Bool, false}
+use mathlib.Core.Bool.{false}
 use mathlib.Core.List.{List, [], _∷_, _++_, map}
 use lib.ListN.{getD, replicate}
 use Rattle.wire.specs.Number.{bytes}

@@ -1,10 +1,10 @@
 -- Document 01's marked cases, each from the bytes of an image and of records to event records and report fields, jointly. Assumes nothing.
 use Prim.Native.Nat.{ℕ}
 use mathlib.Core.Path.{_≡_, refl}
-use mathlib.Core.Bool.{Bool, true, false}
-use mathlib.Core.List.{List, [], _∷_, _++_}
+use mathlib.Core.Bool.{true, false}
+use mathlib.Core.List.{List, [], _∷_}
 use lib.ListN.{replicate}
-use lib.Ieee.{Float, binary32, ofBits, toBits, ofInt, sub, add, mul, div, neg, lt, le, eq}
+use lib.Ieee.{binary32, ofBits, toBits, ofInt, sub, add, mul, div, neg, lt, le, eq}
 use Rattle.wire.specs.Number.{value, bytes}
 use Rattle.wire.specs.Internal.Words.{words}
 use Rattle.wire.specs.Real.{largest, bounded}

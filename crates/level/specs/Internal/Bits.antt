@@ -3,11 +3,9 @@ use Prim.Native.Nat.{ℕ}
 use mathlib.Core.Bool.{Bool, false}
 use mathlib.Core.List.{List, [], _∷_}
 use lib.Ieee.{Float}
-use Rattle.wire.specs.Real.{zeroReal}
 use Rattle.settings.specs.Condition.{HH, H, L, LL, ROCPos, ROCNeg}
 use Rattle.settings.specs.declared.types.Alarm.{Alarm}
 use Rattle.settings.specs.declared.types.Limits.{Limits}
-use Rattle.settings.specs.declared.types.Severities.{Severities}
 use Rattle.settings.specs.declared.types.Kind.the-variants.{Analog}
 use Rattle.settings.specs.declared.types.Reading.{Reading}
 use Rattle.level.specs.Level.{met, frees}
