@@ -1,5 +1,6 @@
 #!/bin/sh
-# Builds the C and the Rust example against the archive, runs them, and holds what they print to document 01's listing.
+# Builds the C and the Rust example against the archive, runs them, and holds what they print to document 01's listing. Then measures
+# how much stack the calls use and holds the header's figures to it.
 set -eu
 cd "$(dirname "$0")/.."
 
@@ -24,3 +25,9 @@ for host in c rust; do
     fi
     echo "host/test.sh: $host prints document 01's listing"
 done
+
+gcc -O2 -Wall -Wextra -I crates/meifgur_c/include host/c/stack.c "$archive" -o "$work/stack"
+if ! "$work/stack"; then
+    echo "host/test.sh: FAILED: crates/meifgur_c/include/meifgur.h has other figures of stack than were measured" >&2
+    exit 1
+fi

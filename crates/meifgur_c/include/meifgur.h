@@ -6,7 +6,7 @@
  * crates/meifgur_c/specs: every result, and every byte and word of each lent buffer, for input of any length and content.
  *
  * State: none is kept between calls, nothing is allocated, no file, clock or lock is touched. Calls may run at the same
- * time on different buffers. meifgur_replay uses some 52 KB of stack, meifgur_rewrite 13 KB.
+ * time on different buffers. How much stack they use stands below, as measured.
  *
  * Memory: the caller owns every buffer and lends it for the call; no pointer is kept. A length counts elements: bytes of
  * a uint8_t buffer, words of a uint64_t buffer. A pointer must not be NULL, not even with length 0. A buffer that is
@@ -43,6 +43,10 @@ extern "C" {
 #define MEIFGUR_REPORT_SIZE 224u    /* bytes of an alarm's report */
 #define MEIFGUR_REWRITE_WORDS 5u    /* words of meifgur_rewrite's answer */
 #define MEIFGUR_REPLAY_WORDS 8u     /* words of meifgur_replay's answer */
+
+/* Bytes of stack, measured on a full bank and rounded up to a whole KB (host/c/stack.c measures them). */
+#define MEIFGUR_REPLAY_STACK 35840u
+#define MEIFGUR_REWRITE_STACK 13312u
 
 /* What meifgur_rewrite and meifgur_replay return: 0, one of these two, or the number of a refusal (below). */
 #define MEIFGUR_OK 0u

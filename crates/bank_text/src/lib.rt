@@ -1,3 +1,0 @@
-// Banks compared, and reports as text.
-pub mod same;
-pub mod status_text;

@@ -1,0 +1,40 @@
+-- `calls::spelling::put_bytes` is safe: each pair stands in the word, and each byte has its place. The measure is the room left. Assumes nothing.
+use borrow.Author.Needs.{needs}
+use Prim.Native.Nat.{_≤_, _-_}
+use mathlib.Core.Path.{_≡_}
+use lib.ListN.{length}
+use Rattle.calls.proofs.spelling.put_bytes.Statement.{statement}
+use Rattle.calls.proofs.spelling.put_bytes.Tie as tie
+
+abbrev Inv-loop : tie.InvT-loop
+Inv-loop bytes₀ word are-digits₀ at₀ i₀ bytes are-digits at i = (length bytes ≡ length bytes₀) × (i ≤ length word)
+
+abbrev μ-loop : tie.MeasureT-loop
+μ-loop bytes₀ word are-digits₀ at₀ i₀ bytes are-digits at i = length word - i
+
+pub put-bytes-spec : {M : Type 1} → statement M
+put-bytes-spec =
+    tie.close
+    (tie.spec
+    Inv-loop
+    μ-loop
+    (λ c. search needs)
+    (λ c. search needs)
+    (λ c. search needs)
+    (λ c. search needs)
+    (λ c. search needs)
+    (λ c κs. search needs)
+    (λ c. search needs)
+    (λ c. search needs)
+    (λ c κs. search needs)
+    (λ c. search needs)
+    (λ c. search needs)
+    (λ c. search needs)
+    (λ c. search needs)
+    (λ c. search needs)
+    (λ c. search needs)
+    (λ c. (search needs, search needs))
+    (λ c. search needs)
+    (λ c. search needs)
+    (λ c. search needs)
+    (λ c. search needs))

@@ -1,0 +1,31 @@
+// Words of a text, with marks between them.
+use text::input::part;
+use text::pieces::find;
+
+// Word n of a text, counted from 0; no byte where there are fewer.
+pub fn word(text: &[u8], mark: u8, n: usize) -> &[u8] {
+    let mut from = find(text, 0, mark, false);
+    let mut end = find(text, from, mark, true);
+    let mut left = n;
+    while 0 < left {
+        from = find(text, end, mark, false);
+        end = find(text, from, mark, true);
+        left -= 1;
+    }
+    part(text, from, end)
+}
+
+// Whether two words have the same bytes.
+pub fn is_same(a: &[u8], b: &[u8]) -> bool {
+    if a.len() != b.len() {
+        return false;
+    }
+    let mut i = 0;
+    while i < a.len() {
+        if a[i] != b[i] {
+            return false;
+        }
+        i += 1;
+    }
+    true
+}
