@@ -3,6 +3,7 @@ use crate::call::NONE;
 use crate::call::REPORT;
 use crate::call::SCAN;
 use crate::call::SETTINGS;
+use crate::call::WRITE;
 use crate::call::call_of;
 use crate::fault::add_no_call;
 use crate::lent::fill;
@@ -121,9 +122,10 @@ fn run_call(
         REPORT => {
             *waiting = run_report(bank, number, text, *waiting);
         }
-        _ => {
+        WRITE => {
             *waiting = run_write(bank.settings, lent, text, *waiting);
         }
+        _ => {}
     }
     bank
 }

@@ -31,7 +31,7 @@ pub fn no_piece() -> Piece {
     }
 }
 
-// Where from `from` on the first byte stands that is the mark, or the first that is not; the text's length where there is none.
+// Where from `from` on the first byte stands that is the mark, or the first that is not; no place of the text where there is none.
 pub fn find(text: &[u8], from: usize, mark: u8, is_mark: bool) -> usize {
     let mut i = from;
     while i < text.len() {
