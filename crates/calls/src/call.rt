@@ -104,6 +104,7 @@ pub fn call_of(line: &[u8], is_cut: bool, bytes: &mut [u8]) -> Call {
     if name == NONE {
         return no_call(1, NO_CALL);
     }
+    // What stands behind each name: a letter for each word, as `spell` has them.
     let kinds = word(b"be lobe ne le", b' ', name);
     with_words(name, kinds, line, bytes)
 }

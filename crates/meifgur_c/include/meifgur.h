@@ -44,7 +44,7 @@ extern "C" {
 #define MEIFGUR_REWRITE_WORDS 5u    /* words of meifgur_rewrite's answer */
 #define MEIFGUR_REPLAY_WORDS 8u     /* words of meifgur_replay's answer */
 
-/* Bytes of stack, measured on a full bank and rounded up to a whole KB (host/c/stack.c measures them). */
+/* Bytes of stack, measured on a full bank and rounded up (host/c/stack.c measures them). */
 #define MEIFGUR_REPLAY_STACK 35840u
 #define MEIFGUR_REWRITE_STACK 13312u
 

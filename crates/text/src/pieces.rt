@@ -106,10 +106,10 @@ fn read_on(piece: Piece, size: usize, block: &mut [u8]) -> Piece {
     }
 }
 
-// Whether a piece's end was not read, and may be.
-fn is_short(piece: Piece) -> bool {
+// Whether a piece's end was not read, and may be. After a write that failed nothing more is read.
+fn is_short(piece: Piece, waiting: usize) -> bool {
     let source = piece.source;
-    (piece.filled < piece.next) & is_open(source)
+    (piece.filled < piece.next) & is_open(source) & (waiting < FAILED)
 }
 
 // A piece whose end was not read: the rest of the input. What a failed read leaves is none.
@@ -131,9 +131,17 @@ fn rest_of(piece: Piece) -> Piece {
     }
 }
 
-// The next piece: a record of `size` bytes, or, where that is 0, a line; or what is left of the input. Before each read the text so
-// far is written. A proved loop has to end, and nothing says that an input does, so it counts its turns down from a number that no
-// input uses up.
+// How much text waits before a piece is read: none where its end was not read yet, since reading may take long.
+fn settled(piece: Piece, text: &[u8], waiting: usize) -> usize {
+    if is_short(piece, waiting) {
+        return flush(text, waiting);
+    }
+    waiting
+}
+
+// The next piece: a record of `size` bytes, or, where that is 0, a line; or what is left of the input. Before anything is read the
+// text so far is written. A proved loop has to end, and nothing says that an input does, so it counts its turns down from a number
+// that no input uses up.
 pub fn next_piece(
     piece: Piece,
     size: usize,
@@ -142,9 +150,10 @@ pub fn next_piece(
     waiting: &mut usize,
 ) -> Piece {
     let mut next = behind(piece, size, block);
+    let left = settled(next, text, *waiting);
+    *waiting = left;
     let mut turns = u64::MAX;
-    while 0 < turns && is_short(next) {
-        *waiting = flush(text, *waiting);
+    while 0 < turns && is_short(next, left) {
         next = read_on(next, size, block);
         turns -= 1;
     }

@@ -6,6 +6,9 @@ use std::io::{self, BufRead, BufWriter, Write};
 
 use second_opinion::{Bank, EVENT_LEN, Refusal};
 
+/// The longest buffer that a call lends.
+const LENT_MOST: usize = 65_536;
+
 fn main() -> io::Result<()> {
     let mut bank = Bank::empty();
     let mut out = BufWriter::new(io::stdout().lock());
@@ -28,9 +31,9 @@ fn reply(bank: &mut Bank, line: &str) -> Option<Result<String, Refusal>> {
     let words: Vec<&str> = line.split_whitespace().collect();
     Some(match words[..] {
         ["settings", image] => settings(bank, &bytes(image)?),
-        ["scan", room, "-", record] => scan(bank, room.parse().ok()?, &bytes(record)?),
+        ["scan", room, "-", record] => scan(bank, room_of(room)?, &bytes(record)?),
         ["report", alarm] => report(bank, alarm.parse().ok()?),
-        ["write", room] => write(bank, room.parse().ok()?),
+        ["write", room] => write(bank, room_of(room)?),
         _ => return None,
     })
 }
@@ -70,6 +73,11 @@ fn report(bank: &Bank, n: u64) -> Result<String, Refusal> {
         write!(text, " {} {} {}", c.alarm_time, c.return_time, c.ack_time).unwrap();
     }
     Ok(text)
+}
+
+/// The length of a buffer that can be lent.
+fn room_of(word: &str) -> Option<usize> {
+    word.parse().ok().filter(|room| *room <= LENT_MOST)
 }
 
 /// The bytes that pairs of hexadecimal digits spell; `-` is none.

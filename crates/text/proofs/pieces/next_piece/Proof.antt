@@ -6,10 +6,10 @@ use Rattle.text.proofs.pieces.next_piece.Statement.{statement}
 use Rattle.text.proofs.pieces.next_piece.Tie as tie
 
 abbrev Inv-loop : tie.InvT-loop
-Inv-loop size block₀ text waiting₀ next₀ turns₀ block waiting next turns = length block ≡ length block₀
+Inv-loop size block₀ text waiting next₀ left turns₀ block next turns = length block ≡ length block₀
 
 abbrev μ-loop : tie.MeasureT-loop
-μ-loop size block₀ text waiting₀ next₀ turns₀ block waiting next turns = turns
+μ-loop size block₀ text waiting next₀ left turns₀ block next turns = turns
 
 pub next-piece-spec : {M : Type 1} → statement M
 next-piece-spec =
@@ -18,8 +18,8 @@ next-piece-spec =
     Inv-loop
     μ-loop
     (λ c κs. search needs)
-    (λ c. search needs)
     (λ c κs. search needs)
+    (λ c. search needs)
     (λ c κs. search needs)
     (λ c κs. search needs)
     (λ c. search needs)
