@@ -1,10 +1,11 @@
 #!/bin/sh
-# Random lists of scans through the archive and through the second opinion; every byte must agree.
+# Random lists of scans through the archive and through the second opinion, replayed and call by call; every byte must agree.
+# Damaged words through the archive alone; it must end and touch only what it may.
 #
 #   host/differential.sh [LISTS] [SEED] [FIRST]
 #
 # LISTS: how many (1000000). SEED: what makes them (the clock). FIRST: number of the first (0).
-# Ends with 0 if all agree; with 1 and a case made small if two answers differ.
+# Ends with 0 if all agree; with 1 and a case made small if two answers differ or a call touched what it may not.
 set -eu
 cd "$(dirname "$0")/.."
 

@@ -1,6 +1,7 @@
 #!/bin/sh
-# Builds the C and the Rust example against the archive, runs them, and holds what they print to document 01's listing. Then measures
-# how much stack the calls use and holds the header's figures to it.
+# Builds the C and the Rust example against the archive, runs them, and holds what they print to document 01's listing. Each
+# saves its bank midway and goes on with one restored; both must save the same. Then measures how much stack the calls use and
+# holds the header's figures to it.
 set -eu
 cd "$(dirname "$0")/.."
 
@@ -15,7 +16,7 @@ gcc -Wall -Wextra -I crates/meifgur_c/include host/c/example.c "$archive" -o "$w
 rustc -L native=target/staticlib host/rust/example.rs -o "$work/rust"
 
 for host in c rust; do
-    if ! "$work/$host" >"$work/$host.out"; then
+    if ! "$work/$host" "$work/$host.bank" >"$work/$host.out"; then
         echo "host/test.sh: FAILED: the $host example ended with an error" >&2
         exit 1
     fi
@@ -25,6 +26,10 @@ for host in c rust; do
     fi
     echo "host/test.sh: $host prints document 01's listing"
 done
+if ! cmp "$work/c.bank" "$work/rust.bank" >&2; then
+    echo "host/test.sh: FAILED: the examples saved different banks after the same calls" >&2
+    exit 1
+fi
 
 gcc -O2 -Wall -Wextra -I crates/meifgur_c/include host/c/stack.c "$archive" -o "$work/stack"
 if ! "$work/stack"; then

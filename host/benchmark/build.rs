@@ -1,4 +1,4 @@
-//! Says where the archives lie; their names stand in host/rust/meifgur.rs and src/by_value.rs.
+//! Says where the archive lies; its name stands in host/rust/meifgur.rs.
 
 use std::env;
 use std::path::Path;
@@ -6,13 +6,11 @@ use std::path::Path;
 fn main() {
     let here = env::var("CARGO_MANIFEST_DIR").expect("cargo sets it");
     let folder = Path::new(&here).join("../../target/staticlib");
+    let archive = folder.join("libmeifgur_c.a");
+    assert!(
+        archive.exists(),
+        "no archive: `rt staticlib meifgur_c` writes it"
+    );
     println!("cargo:rustc-link-search=native={}", folder.display());
-    for library in ["meifgur_c", "scan_each"] {
-        let archive = folder.join(format!("lib{library}.a"));
-        assert!(
-            archive.exists(),
-            "no archive: `rt staticlib {library}` writes it"
-        );
-        println!("cargo:rerun-if-changed={}", archive.display());
-    }
+    println!("cargo:rerun-if-changed={}", archive.display());
 }

@@ -1,7 +1,9 @@
 /*
- * Document 01's listing through meifgur_replay: prints its events, then how each condition stands.
+ * Document 01's listing by live calls: prints the events of each scan as it is run, then how each condition stands. Midway the
+ * bank is saved as plain bytes to FILE, and another bank that is restored from there goes on.
  *
  *   gcc -Wall -Wextra -I crates/meifgur_c/include host/c/example.c target/staticlib/libmeifgur_c.a -o example
+ *   ./example FILE
  */
 #include <inttypes.h>
 #include <stdio.h>
@@ -22,9 +24,7 @@ static const struct scan {
 } scans[SCANS] = {{1000, 1, 0},      {1100, 1, 0},      {1200, 0, 0},
                   {1300, 0, 1 << 8}, {1400, 0, 1 << 0}, {1500, 1, 0}};
 
-static uint8_t records[SCANS * RECORD];
-static uint8_t events[SCANS * MEIFGUR_EVENTS_ENOUGH];
-static uint8_t reports[MEIFGUR_ALARMS_MOST * MEIFGUR_REPORT_SIZE];
+static struct meifgur_bank at_first, restored;
 
 static void put(uint8_t *at, uint64_t value, size_t bytes)
 {
@@ -68,37 +68,91 @@ static int fail(const char *what, uint64_t number, uint64_t place)
     return 1;
 }
 
-int main(void)
+/* Loads the settings and holds the image that the bank writes to the one that it was given. */
+static int load(struct meifgur_bank *bank, struct meifgur_loaded *loaded)
 {
-    uint64_t answer[MEIFGUR_REPLAY_WORDS];
+    struct meifgur_written written;
     uint8_t copy[MEIFGUR_IMAGE_MOST];
 
-    if (meifgur_version() != MEIFGUR_VERSION || meifgur_record_length(1, 0) != RECORD)
-        return fail("another version", meifgur_version(), 0);
+    if (meifgur_bank_load(bank, image, sizeof image, loaded) != MEIFGUR_OK)
+        return fail("settings refused", loaded->number, loaded->place);
+    if (meifgur_bank_write(bank, copy, sizeof copy, &written) != MEIFGUR_OK)
+        return fail("settings not written", written.number, written.place);
+    if (written.length != sizeof image || memcmp(copy, image, sizeof image) != 0)
+        return fail("settings written otherwise", written.length, 0);
+    return 0;
+}
 
-    uint32_t code = meifgur_rewrite(image, sizeof image, copy, sizeof copy, answer, MEIFGUR_REWRITE_WORDS);
-    if (code != MEIFGUR_OK)
-        return fail("settings refused", code, answer[1]);
-    if (answer[2] != sizeof image || memcmp(copy, image, sizeof image) != 0)
-        return fail("settings written otherwise", answer[2], 0);
+static int scan(struct meifgur_bank *bank, const struct scan *s)
+{
+    struct meifgur_scanned scanned;
+    uint8_t record[RECORD];
+    uint8_t events[MEIFGUR_EVENTS_ENOUGH];
+
+    put(record, s->time, 8);
+    put(record + 8, s->reading, 1);
+    put(record + 9, s->command, 4);
+    if (meifgur_bank_scan(bank, record, sizeof record, events, sizeof events, &scanned) != MEIFGUR_OK)
+        return fail("record refused", scanned.number, scanned.place);
+    for (uint64_t i = 0; i < scanned.events; i++)
+        print_event(events + MEIFGUR_EVENT_SIZE * i);
+    return 0;
+}
+
+static int report(const struct meifgur_bank *bank, size_t alarm, uint8_t bytes[MEIFGUR_REPORT_SIZE])
+{
+    struct meifgur_reported reported;
+    if (meifgur_bank_report(bank, alarm, bytes, &reported) != MEIFGUR_OK)
+        return fail("report refused", reported.number, reported.place);
+    return 0;
+}
+
+/* Every word of a bank, as plain bytes. */
+static int save(const struct meifgur_bank *bank, const char *path)
+{
+    FILE *file = fopen(path, "wb");
+    size_t saved = file == NULL ? 0 : fwrite(bank, sizeof *bank, 1, file);
+    if (file == NULL || fclose(file) != 0 || saved != 1)
+        return fail("bank not saved", 0, 0);
+    return 0;
+}
+
+static int restore(struct meifgur_bank *bank, const char *path)
+{
+    FILE *file = fopen(path, "rb");
+    size_t read = file == NULL ? 0 : fread(bank, sizeof *bank, 1, file);
+    if (file != NULL)
+        fclose(file);
+    return read == 1 ? 0 : fail("bank not restored", 0, 0);
+}
+
+int main(int argc, char **argv)
+{
+    struct meifgur_bank *bank = &at_first;
+    struct meifgur_loaded loaded;
+    uint8_t bytes[MEIFGUR_REPORT_SIZE];
+
+    if (argc != 2)
+        return fail("arguments other than FILE", (uint64_t)argc, 0);
+    if (!meifgur_sizes_agree() || meifgur_record_length(1, 0) != RECORD)
+        return fail("another version", meifgur_version(), 0);
+    if (load(bank, &loaded))
+        return 1;
 
     for (size_t i = 0; i < SCANS; i++) {
-        uint8_t *r = records + RECORD * i;
-        put(r, scans[i].time, 8);
-        put(r + 8, scans[i].reading, 1);
-        put(r + 9, scans[i].command, 4);
+        if (i == SCANS / 2) {
+            if (save(bank, argv[1]) || restore(&restored, argv[1]))
+                return 1;
+            bank = &restored;
+        }
+        if (scan(bank, &scans[i]) || report(bank, 1, bytes))
+            return 1;
     }
 
-    code = meifgur_replay(image, sizeof image, records, sizeof records, events, sizeof events,
-                          reports, sizeof reports, answer, MEIFGUR_REPLAY_WORDS);
-    if (code != MEIFGUR_OK)
-        return fail("replay", code, answer[1]);
-    if (answer[3] != 0)
-        return fail("record refused", answer[4], answer[5]);
-
-    for (uint64_t i = 0; i < answer[2]; i++)
-        print_event(events + MEIFGUR_EVENT_SIZE * i);
-    for (uint64_t n = 0; n < answer[7]; n++) /* an accepted image begins with the number of its digital alarms */
-        print_report((unsigned)n + 1, n < image[0], reports + MEIFGUR_REPORT_SIZE * n);
+    for (unsigned n = 1; n <= loaded.digital + loaded.analog; n++) {
+        if (report(bank, n, bytes))
+            return 1;
+        print_report(n, n <= loaded.digital, bytes);
+    }
     return 0;
 }

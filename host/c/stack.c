@@ -13,6 +13,7 @@
 #define EACH 12                                 /* alarms of each kind */
 #define SCANS 50                                /* scans of the drive */
 #define RECORD (8 + EACH * (1 + 4) + EACH * (4 + 4))
+#define TOO_SHORT 12 /* the refusal of a record whose events don't fit */
 #define STACK 262144
 #define PAINT 0xA5
 
@@ -22,11 +23,13 @@ static const uint8_t analog[61] = {0x1F, 0x84, 0x03, 0, 0, 0xBC, 0x02, 0, 0, 0xB
                                    0x44, 0,    0,    0x16, 0x44, 0, 0, 0xFA, 0x43, 0, 0, 0xA0, 0x41, 0, 0, 0xA0,
                                    0x40, 0,    0,    0xA0, 0x40, 0xE8, 0x03, 0, 0, 0, 0, 0, 0};
 
+static struct meifgur_bank bank;
 static uint8_t image[MEIFGUR_IMAGE_MOST];
 static uint8_t records[SCANS * RECORD];
 static uint8_t events[SCANS * MEIFGUR_EVENTS_ENOUGH];
-static uint8_t reports[MEIFGUR_ALARMS_MOST * MEIFGUR_REPORT_SIZE];
+static uint8_t report[MEIFGUR_REPORT_SIZE];
 static uint8_t out[MEIFGUR_IMAGE_MOST];
+static int refused; /* calls that were refused and should not have been */
 static uint8_t stack[STACK] __attribute__((aligned(64)));
 static ucontext_t here, there;
 
@@ -61,18 +64,67 @@ static void make_records(void)
     }
 }
 
-static void replay(void)
+static void load(void)
 {
-    uint64_t answer[MEIFGUR_REPLAY_WORDS];
-    meifgur_replay(image, sizeof image, records, sizeof records, events, sizeof events, reports, sizeof reports, answer,
-                   MEIFGUR_REPLAY_WORDS);
+    struct meifgur_loaded answer;
+    refused += meifgur_bank_load(&bank, image, sizeof image, &answer) != MEIFGUR_OK;
 }
 
-static void rewrite(void)
+/* The whole drive, scan by scan, with an event buffer of so many bytes; 1 if any was refused with another number than `but`. */
+static int scans_refused(size_t room, uint32_t but)
 {
-    uint64_t answer[MEIFGUR_REWRITE_WORDS];
-    meifgur_rewrite(image, sizeof image, out, sizeof out, answer, MEIFGUR_REWRITE_WORDS);
+    struct meifgur_scanned answer;
+    int others = 0;
+    for (int scan = 0; scan < SCANS; scan++) {
+        uint32_t code = meifgur_bank_scan(&bank, records + scan * RECORD, RECORD, events, room, &answer);
+        others |= code != MEIFGUR_OK && code != but;
+    }
+    return others;
 }
+
+static void scan(void)
+{
+    refused += scans_refused(MEIFGUR_EVENTS_ENOUGH, MEIFGUR_OK);
+}
+
+/* Buffers that might not suffice: one that never does here, then one that does. */
+static void scan_short(void)
+{
+    refused += scans_refused(MEIFGUR_EVENT_SIZE, TOO_SHORT);
+    refused += scans_refused(MEIFGUR_EVENTS_ENOUGH - 1, MEIFGUR_OK);
+}
+
+static void report_each(void)
+{
+    struct meifgur_reported answer;
+    for (size_t n = 1; n <= MEIFGUR_ALARMS_MOST; n++)
+        refused += meifgur_bank_report(&bank, n, report, &answer) != MEIFGUR_OK;
+}
+
+static void write_image(void)
+{
+    struct meifgur_written answer;
+    refused += meifgur_bank_write(&bank, out, sizeof out, &answer) != MEIFGUR_OK;
+}
+
+static void replay(void)
+{
+    struct meifgur_replayed answer;
+    refused += meifgur_bank_replay(&bank, records, sizeof records, events, sizeof events, &answer) != MEIFGUR_OK;
+}
+
+static const struct measured {
+    const char *name;
+    void (*call)(void);
+    size_t figure; /* the header's */
+} calls[] = {
+    {"MEIFGUR_LOAD_STACK", load, MEIFGUR_LOAD_STACK},
+    {"MEIFGUR_SCAN_STACK", scan, MEIFGUR_SCAN_STACK},
+    {"MEIFGUR_SCAN_SHORT_STACK", scan_short, MEIFGUR_SCAN_SHORT_STACK},
+    {"MEIFGUR_REPORT_STACK", report_each, MEIFGUR_REPORT_STACK},
+    {"MEIFGUR_WRITE_STACK", write_image, MEIFGUR_WRITE_STACK},
+    {"MEIFGUR_REPLAY_STACK", replay, MEIFGUR_REPLAY_STACK},
+};
 
 /* Bytes of a painted stack that a call leaves changed, from the lowest one up; the caller's own frame is among them. */
 static size_t used_by(void (*call)(void))
@@ -90,18 +142,23 @@ static size_t used_by(void (*call)(void))
     return sizeof stack - kept;
 }
 
-/* 1 where the header's figure is less than the bytes measured, or 2 KB more. */
-static int differs(const char *name, size_t used, size_t figure)
+/* 1 where the header's figure is less than the bytes measured, or 2 KB more. Each call starts from a fresh bank. */
+static int differs(const struct measured *m)
 {
-    printf("%s: %zu bytes of stack; the header says %zu\n", name, used, figure);
-    return figure < used || used + 2048 <= figure;
+    load();
+    size_t used = used_by(m->call);
+    printf("%s: %zu bytes of stack; the header says %zu\n", m->name, used, m->figure);
+    return m->figure < used || used + 2048 <= m->figure;
 }
 
 int main(void)
 {
+    int wrong = 0;
     make_image();
     make_records();
-    int wrong = differs("meifgur_replay", used_by(replay), MEIFGUR_REPLAY_STACK);
-    wrong |= differs("meifgur_rewrite", used_by(rewrite), MEIFGUR_REWRITE_STACK);
-    return wrong;
+    for (size_t i = 0; i < sizeof calls / sizeof calls[0]; i++)
+        wrong |= differs(&calls[i]);
+    if (refused)
+        printf("%d calls were refused, so that the bytes measured say nothing\n", refused);
+    return wrong || refused;
 }

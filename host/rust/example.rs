@@ -1,7 +1,13 @@
-// Document 01's listing through `meifgur::replay`: prints its events, then how each condition stands.
+// Document 01's listing by live calls: prints the events of each scan as it is run, then how each condition stands. Midway the
+// bank is saved to FILE, and another bank that is restored from there goes on.
 //
 //   rustc -L native=target/staticlib host/rust/example.rs
+//   ./example FILE
+#[allow(dead_code)] // not all of the wrapper is called here
 mod meifgur;
+
+use meifgur::Bank;
+use std::{env, fs, io};
 
 // One digital alarm: Condition, AckRequired, Latched; Severity 700; MinDuration 100. No analog alarm.
 const IMAGE: [u8; 11] = [
@@ -64,40 +70,55 @@ fn print_report(alarm: usize, is_digital: bool, report: &[u8]) {
     }
 }
 
-fn records() -> Vec<u8> {
-    let mut records = Vec::new();
-    for &(time, reading, command) in SCANS.iter() {
-        records.extend_from_slice(&time.to_le_bytes());
-        records.push(reading);
-        records.extend_from_slice(&command.to_le_bytes());
-    }
-    records
+fn record((time, reading, command): (u64, u8, u32)) -> Vec<u8> {
+    let mut record = time.to_le_bytes().to_vec();
+    record.push(reading);
+    record.extend_from_slice(&command.to_le_bytes());
+    record
 }
 
-fn main() {
-    assert_eq!(meifgur::version(), meifgur::VERSION);
-    let mut copy = [0u8; meifgur::IMAGE_MOST];
-    let written = meifgur::rewrite(&IMAGE, &mut copy).expect("settings");
-    assert_eq!(copy[..written.length], IMAGE);
+fn save(bank: &Bank, path: &str) -> io::Result<()> {
+    let words = bank.words();
+    let bytes: Vec<u8> = words.iter().flat_map(|word| word.to_le_bytes()).collect();
+    fs::write(path, bytes)
+}
 
-    let records = records();
-    assert_eq!(
-        records.len(),
-        SCANS.len() * meifgur::record_length(written.digital, written.analog)
-    );
-    let mut events = vec![0u8; SCANS.len() * meifgur::EVENTS_ENOUGH];
-    let mut reports = [0u8; meifgur::ALARMS_MOST * meifgur::REPORT_SIZE];
-    let done = meifgur::replay(&IMAGE, &records, &mut events, &mut reports).expect("replay");
-    assert_eq!(done.first, None);
+fn restore(path: &str) -> io::Result<Bank> {
+    let bytes = fs::read(path)?;
+    let mut words = [0; meifgur::BANK_WORDS];
+    assert_eq!(bytes.len(), 8 * words.len());
+    for (word, bytes) in words.iter_mut().zip(bytes.chunks(8)) {
+        *word = get(bytes);
+    }
+    Ok(Bank::from_words(&words))
+}
 
-    for e in events.chunks(meifgur::EVENT_SIZE).take(done.events) {
-        print_event(e);
+fn main() -> io::Result<()> {
+    assert!(meifgur::sizes_agree());
+    let path = env::args().nth(1).expect("argument: FILE");
+
+    let mut bank = Bank::empty();
+    let counts = bank.load(&IMAGE).expect("settings");
+    let mut copy = [0; meifgur::IMAGE_MOST];
+    let length = bank.write(&mut copy).expect("settings written");
+    assert_eq!(copy[..length], IMAGE);
+
+    let mut events = [0; meifgur::EVENTS_ENOUGH];
+    for (n, scan) in SCANS.iter().enumerate() {
+        if n == SCANS.len() / 2 {
+            save(&bank, &path)?;
+            bank = restore(&path)?;
+        }
+        let count = bank.scan(&record(*scan), &mut events).expect("record");
+        for e in events.chunks(meifgur::EVENT_SIZE).take(count) {
+            print_event(e);
+        }
+        bank.report(1).expect("report in between");
     }
-    for (n, r) in reports
-        .chunks(meifgur::REPORT_SIZE)
-        .take(done.alarms)
-        .enumerate()
-    {
-        print_report(n + 1, n < written.digital, r);
+
+    for n in 1..=counts.digital + counts.analog {
+        let report = bank.report(n).expect("report");
+        print_report(n, n <= counts.digital, &report);
     }
+    Ok(())
 }

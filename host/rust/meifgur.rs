@@ -1,40 +1,151 @@
-//! Safe calls over slices. No allocation, no state; crates/meifgur_c/include/meifgur.h says what each call does and how its
-//! buffers are laid out.
+//! Safe calls on a `Bank`, and over slices. No allocation; crates/meifgur_c/include/meifgur.h says what each call does and how
+//! its buffers are laid out.
 
-pub const VERSION: u32 = 1;
+pub const VERSION: u32 = 2;
 pub const ALARMS_MOST: usize = 24;
 pub const IMAGE_MOST: usize = 842;
 pub const EVENT_SIZE: usize = 16;
 pub const EVENTS_ENOUGH: usize = 3840;
 pub const REPORT_SIZE: usize = 224;
+/// Words of a bank's three blocks, and of all.
+pub const SETTINGS_WORDS: usize = 292;
+pub const STATES_WORDS: usize = 580;
+pub const MARKS_WORDS: usize = 900;
+pub const BANK_WORDS: usize = SETTINGS_WORDS + STATES_WORDS + MARKS_WORDS;
+/// Words of each call's answer.
+pub const LOAD_ANSWER: usize = 4;
+pub const SCAN_ANSWER: usize = 3;
+pub const REPORT_ANSWER: usize = 2;
+pub const WRITE_ANSWER: usize = 3;
+pub const REPLAY_ANSWER: usize = 5;
 
 mod raw {
     // A slice crosses as its pointer and its length.
+
+    /// A scan or a replay: settings, states, marks, records, events, answer.
+    pub type Run = unsafe extern "C" fn(
+        *const u64,
+        usize,
+        *mut u64,
+        usize,
+        *mut u64,
+        usize,
+        *const u8,
+        usize,
+        *mut u8,
+        usize,
+        *mut u64,
+        usize,
+    ) -> u32;
+
     #[link(name = "meifgur_c", kind = "static")]
     extern "C" {
         pub fn meifgur_version() -> u32;
+        pub fn meifgur_event_size() -> u32;
+        pub fn meifgur_events_enough() -> u32;
+        pub fn meifgur_image_most() -> u32;
+        pub fn meifgur_report_size() -> u32;
+        pub fn meifgur_settings_words() -> u32;
+        pub fn meifgur_states_words() -> u32;
+        pub fn meifgur_marks_words() -> u32;
         pub fn meifgur_record_length(digital: usize, analog: usize) -> usize;
-        pub fn meifgur_rewrite(
+        pub fn meifgur_load(
             image: *const u8,
             image_length: usize,
+            settings: *mut u64,
+            settings_words: usize,
+            states: *mut u64,
+            states_words: usize,
+            marks: *mut u64,
+            marks_words: usize,
+            answer: *mut u64,
+            answer_words: usize,
+        ) -> u32;
+        pub fn meifgur_scan(
+            settings: *const u64,
+            settings_words: usize,
+            states: *mut u64,
+            states_words: usize,
+            marks: *mut u64,
+            marks_words: usize,
+            record: *const u8,
+            record_length: usize,
+            events: *mut u8,
+            events_length: usize,
+            answer: *mut u64,
+            answer_words: usize,
+        ) -> u32;
+        pub fn meifgur_report(
+            settings: *const u64,
+            settings_words: usize,
+            states: *const u64,
+            states_words: usize,
+            marks: *const u64,
+            marks_words: usize,
+            alarm: usize,
+            report: *mut u8,
+            report_length: usize,
+            answer: *mut u64,
+            answer_words: usize,
+        ) -> u32;
+        pub fn meifgur_write(
+            settings: *const u64,
+            settings_words: usize,
             out: *mut u8,
             out_length: usize,
             answer: *mut u64,
             answer_words: usize,
         ) -> u32;
         pub fn meifgur_replay(
-            image: *const u8,
-            image_length: usize,
+            settings: *const u64,
+            settings_words: usize,
+            states: *mut u64,
+            states_words: usize,
+            marks: *mut u64,
+            marks_words: usize,
             records: *const u8,
             records_length: usize,
             events: *mut u8,
             events_length: usize,
-            reports: *mut u8,
-            reports_length: usize,
             answer: *mut u64,
             answer_words: usize,
         ) -> u32;
     }
+}
+
+/// The version of the linked archive.
+pub fn version() -> u32 {
+    unsafe { raw::meifgur_version() }
+}
+
+/// Whether the archive has this file's version and sizes.
+pub fn sizes_agree() -> bool {
+    let sizes = unsafe {
+        [
+            raw::meifgur_event_size(),
+            raw::meifgur_events_enough(),
+            raw::meifgur_image_most(),
+            raw::meifgur_report_size(),
+            raw::meifgur_settings_words(),
+            raw::meifgur_states_words(),
+            raw::meifgur_marks_words(),
+        ]
+    };
+    let here = [
+        EVENT_SIZE,
+        EVENTS_ENOUGH,
+        IMAGE_MOST,
+        REPORT_SIZE,
+        SETTINGS_WORDS,
+        STATES_WORDS,
+        MARKS_WORDS,
+    ];
+    version() == VERSION && sizes.map(|size| size as usize) == here
+}
+
+/// Bytes of a scan record for so many alarms of each kind.
+pub fn record_length(digital: usize, analog: usize) -> usize {
+    unsafe { raw::meifgur_record_length(digital, analog) }
 }
 
 /// A refusal by its number and place.
@@ -44,19 +155,9 @@ pub struct Refusal {
     pub place: u64,
 }
 
-/// What a call gives in place of its result.
+/// How many alarms of each kind a bank has.
 #[derive(Clone, Copy, Debug, PartialEq, Eq)]
-pub enum Error {
-    /// The settings are refused (1 to 6), or the buffer for their image is too short (13).
-    Refused(Refusal),
-    /// `reports` has fewer than 224 bytes for each alarm.
-    ReportsShort,
-}
-
-/// An image that was written back.
-#[derive(Clone, Copy, Debug, PartialEq, Eq)]
-pub struct Rewritten {
-    pub length: usize,
+pub struct Counts {
     pub digital: usize,
     pub analog: usize,
 }
@@ -67,33 +168,207 @@ pub struct Replayed {
     pub events: usize,
     pub refused: u64,
     pub first: Option<(Refusal, u64)>,
-    pub alarms: usize,
 }
 
-fn refused(answer: &[u64]) -> Error {
-    Error::Refused(Refusal {
-        number: answer[0],
-        place: answer[1],
-    })
+/// A bank of alarms: the words that the calls keep it in. A clone is a bank of its own, which goes on from here.
+#[derive(Clone, Debug, PartialEq, Eq)]
+pub struct Bank {
+    settings: [u64; SETTINGS_WORDS],
+    states: [u64; STATES_WORDS],
+    marks: [u64; MARKS_WORDS],
 }
 
-/// The version of the linked archive.
-pub fn version() -> u32 {
-    unsafe { raw::meifgur_version() }
+impl Bank {
+    /// A bank without alarms.
+    pub fn empty() -> Bank {
+        let mut bank = Bank::from_words(&[0; BANK_WORDS]);
+        let _ = bank.load(&[0, 0]);
+        bank
+    }
+
+    /// Takes the settings of an image over, with fresh alarms. A refused image leaves a bank without alarms.
+    pub fn load(&mut self, image: &[u8]) -> Result<Counts, Refusal> {
+        let mut answer = [0; LOAD_ANSWER];
+        let Bank {
+            settings,
+            states,
+            marks,
+        } = self;
+        load_words(image, settings, states, marks, &mut answer);
+        let [number, place, digital, analog] = answer;
+        unless_refused(number, place)?;
+        Ok(Counts {
+            digital: digital as usize,
+            analog: analog as usize,
+        })
+    }
+
+    /// Runs a record as a scan; its events go to the front of `events`, and their number is given. A refusal leaves both
+    /// bank and buffer.
+    pub fn scan(&mut self, record: &[u8], events: &mut [u8]) -> Result<usize, Refusal> {
+        let mut answer = [0; SCAN_ANSWER];
+        scan_words(
+            &self.settings,
+            &mut self.states,
+            &mut self.marks,
+            record,
+            events,
+            &mut answer,
+        );
+        let [number, place, events] = answer;
+        unless_refused(number, place)?;
+        Ok(events as usize)
+    }
+
+    /// The report of an alarm, counted from 1.
+    pub fn report(&self, alarm: usize) -> Result<[u8; REPORT_SIZE], Refusal> {
+        let mut report = [0; REPORT_SIZE];
+        let mut answer = [0; REPORT_ANSWER];
+        report_words(
+            &self.settings,
+            &self.states,
+            &self.marks,
+            alarm,
+            &mut report,
+            &mut answer,
+        );
+        let [number, place] = answer;
+        unless_refused(number, place)?;
+        Ok(report)
+    }
+
+    /// Writes the settings image to the front of `out` and gives its length. A refusal leaves `out`.
+    pub fn write(&self, out: &mut [u8]) -> Result<usize, Refusal> {
+        let mut answer = [0; WRITE_ANSWER];
+        write_words(&self.settings, out, &mut answer);
+        let [number, place, length] = answer;
+        unless_refused(number, place)?;
+        Ok(length as usize)
+    }
+
+    /// Runs each record of `records`; the events of all go to the front of `events`. Refused only on words that hold no bank.
+    pub fn replay(&mut self, records: &[u8], events: &mut [u8]) -> Result<Replayed, Refusal> {
+        let mut answer = [0; REPLAY_ANSWER];
+        let code = replay_words(
+            &self.settings,
+            &mut self.states,
+            &mut self.marks,
+            records,
+            events,
+            &mut answer,
+        );
+        let [events, refused, number, place, index] = answer;
+        unless_refused(code.into(), place)?;
+        Ok(Replayed {
+            events: events as usize,
+            refused,
+            first: unless_refused(number, place).err().map(|r| (r, index)),
+        })
+    }
+
+    /// Every word, to be saved.
+    pub fn words(&self) -> [u64; BANK_WORDS] {
+        let mut words = [0; BANK_WORDS];
+        let (settings, rest) = words.split_at_mut(SETTINGS_WORDS);
+        let (states, marks) = rest.split_at_mut(STATES_WORDS);
+        settings.copy_from_slice(&self.settings);
+        states.copy_from_slice(&self.states);
+        marks.copy_from_slice(&self.marks);
+        words
+    }
+
+    /// The bank that these words were saved from. Words that no bank gave are refused by every call (42), or mean some bank.
+    pub fn from_words(words: &[u64; BANK_WORDS]) -> Bank {
+        let mut bank = Bank {
+            settings: [0; SETTINGS_WORDS],
+            states: [0; STATES_WORDS],
+            marks: [0; MARKS_WORDS],
+        };
+        let (settings, rest) = words.split_at(SETTINGS_WORDS);
+        let (states, marks) = rest.split_at(STATES_WORDS);
+        bank.settings.copy_from_slice(settings);
+        bank.states.copy_from_slice(states);
+        bank.marks.copy_from_slice(marks);
+        bank
+    }
 }
 
-/// Bytes of a scan record for so many alarms of each kind.
-pub fn record_length(digital: usize, analog: usize) -> usize {
-    unsafe { raw::meifgur_record_length(digital, analog) }
+/// The refusal that an answer's number and place say, if they say one.
+fn unless_refused(number: u64, place: u64) -> Result<(), Refusal> {
+    match number {
+        0 => Ok(()),
+        _ => Err(Refusal { number, place }),
+    }
 }
 
-/// `meifgur_rewrite` as the header has it: the return code, and the answer's words in a buffer of any length.
-pub fn rewrite_words(image: &[u8], out: &mut [u8], answer: &mut [u64]) -> u32 {
-    // Sound: each pointer has its slice's length, and `&mut` keeps the slices apart.
+// The calls as the header has them, over blocks, buffers and answers of any length. Each gives the return code. They are sound:
+// each pointer has its slice's length, and `&mut` keeps what is written apart from all else.
+
+pub fn load_words(
+    image: &[u8],
+    settings: &mut [u64],
+    states: &mut [u64],
+    marks: &mut [u64],
+    answer: &mut [u64],
+) -> u32 {
     unsafe {
-        raw::meifgur_rewrite(
+        raw::meifgur_load(
             image.as_ptr(),
             image.len(),
+            settings.as_mut_ptr(),
+            settings.len(),
+            states.as_mut_ptr(),
+            states.len(),
+            marks.as_mut_ptr(),
+            marks.len(),
+            answer.as_mut_ptr(),
+            answer.len(),
+        )
+    }
+}
+
+pub fn scan_words(
+    settings: &[u64],
+    states: &mut [u64],
+    marks: &mut [u64],
+    record: &[u8],
+    events: &mut [u8],
+    answer: &mut [u64],
+) -> u32 {
+    let call = raw::meifgur_scan;
+    run_words(call, settings, states, marks, record, events, answer)
+}
+
+pub fn report_words(
+    settings: &[u64],
+    states: &[u64],
+    marks: &[u64],
+    alarm: usize,
+    report: &mut [u8],
+    answer: &mut [u64],
+) -> u32 {
+    unsafe {
+        raw::meifgur_report(
+            settings.as_ptr(),
+            settings.len(),
+            states.as_ptr(),
+            states.len(),
+            marks.as_ptr(),
+            marks.len(),
+            alarm,
+            report.as_mut_ptr(),
+            report.len(),
+            answer.as_mut_ptr(),
+            answer.len(),
+        )
+    }
+}
+
+pub fn write_words(settings: &[u64], out: &mut [u8], answer: &mut [u64]) -> u32 {
+    unsafe {
+        raw::meifgur_write(
+            settings.as_ptr(),
+            settings.len(),
             out.as_mut_ptr(),
             out.len(),
             answer.as_mut_ptr(),
@@ -102,70 +377,42 @@ pub fn rewrite_words(image: &[u8], out: &mut [u8], answer: &mut [u64]) -> u32 {
     }
 }
 
-/// `meifgur_replay` as the header has it: the return code, and the answer's words in a buffer of any length.
 pub fn replay_words(
-    image: &[u8],
+    settings: &[u64],
+    states: &mut [u64],
+    marks: &mut [u64],
     records: &[u8],
     events: &mut [u8],
-    reports: &mut [u8],
     answer: &mut [u64],
 ) -> u32 {
-    // Sound: as in `rewrite_words`.
+    let call = raw::meifgur_replay;
+    run_words(call, settings, states, marks, records, events, answer)
+}
+
+/// A scan or a replay, which take the same.
+fn run_words(
+    call: raw::Run,
+    settings: &[u64],
+    states: &mut [u64],
+    marks: &mut [u64],
+    records: &[u8],
+    events: &mut [u8],
+    answer: &mut [u64],
+) -> u32 {
     unsafe {
-        raw::meifgur_replay(
-            image.as_ptr(),
-            image.len(),
+        call(
+            settings.as_ptr(),
+            settings.len(),
+            states.as_mut_ptr(),
+            states.len(),
+            marks.as_mut_ptr(),
+            marks.len(),
             records.as_ptr(),
             records.len(),
             events.as_mut_ptr(),
             events.len(),
-            reports.as_mut_ptr(),
-            reports.len(),
             answer.as_mut_ptr(),
             answer.len(),
         )
-    }
-}
-
-/// Checks a settings image and writes it back to the front of `out`. A refusal leaves `out`.
-pub fn rewrite(image: &[u8], out: &mut [u8]) -> Result<Rewritten, Error> {
-    let mut answer = [0u64; 5];
-    match rewrite_words(image, out, &mut answer) {
-        0 => Ok(Rewritten {
-            length: answer[2] as usize,
-            digital: answer[3] as usize,
-            analog: answer[4] as usize,
-        }),
-        _ => Err(refused(&answer)),
-    }
-}
-
-/// Runs each record of `records` on a fresh bank; events and the report of each alarm go to the fronts of their buffers.
-/// An error leaves both.
-pub fn replay(
-    image: &[u8],
-    records: &[u8],
-    events: &mut [u8],
-    reports: &mut [u8],
-) -> Result<Replayed, Error> {
-    let mut answer = [0u64; 8];
-    match replay_words(image, records, events, reports, &mut answer) {
-        0 => Ok(Replayed {
-            events: answer[2] as usize,
-            refused: answer[3],
-            first: match answer[3] {
-                0 => None,
-                _ => Some((
-                    Refusal {
-                        number: answer[4],
-                        place: answer[5],
-                    },
-                    answer[6],
-                )),
-            },
-            alarms: answer[7] as usize,
-        }),
-        41 => Err(Error::ReportsShort),
-        _ => Err(refused(&answer)),
     }
 }

@@ -138,19 +138,19 @@ impl Bank {
 
 /// A digital alarm's reading and command word.
 #[inline(always)]
-fn decode_digital(&[input, a, b, c, d]: &[u8; DIGITAL_LEN]) -> (u8, u32) {
+pub fn decode_digital(&[input, a, b, c, d]: &[u8; DIGITAL_LEN]) -> (u8, u32) {
     (input, u32::from_le_bytes([a, b, c, d]))
 }
 
 /// An analog alarm's reading and command word.
 #[inline(always)]
-fn decode_analog(&[a, b, c, d, e, f, g, h]: &[u8; ANALOG_LEN]) -> (f32, u32) {
+pub fn decode_analog(&[a, b, c, d, e, f, g, h]: &[u8; ANALOG_LEN]) -> (f32, u32) {
     (f32::from_le_bytes([a, b, c, d]), u32::from_le_bytes([e, f, g, h]))
 }
 
 /// The number of what is wrong with a digital alarm's part of a record.
 #[inline(always)]
-fn check_digital(input: u8, commands: u32) -> Result<(), u32> {
+pub fn check_digital(input: u8, commands: u32) -> Result<(), u32> {
     if input > 1 {
         Err(9)
     } else if commands & !command::DIGITAL != 0 {
@@ -162,7 +162,7 @@ fn check_digital(input: u8, commands: u32) -> Result<(), u32> {
 
 /// The number of what is wrong with an analog alarm's part of a record.
 #[inline(always)]
-fn check_analog(level: f32, commands: u32) -> Result<(), u32> {
+pub fn check_analog(level: f32, commands: u32) -> Result<(), u32> {
     if !is_real(level.to_bits()) {
         Err(10)
     } else if commands & !command::ANALOG != 0 {

@@ -6,7 +6,7 @@ use crate::Refusal;
 pub const MOST: usize = 12;
 /// Bit pattern of the largest magnitude a REAL may have, 999,999,986,991,104. Patterns without their
 /// sign are ordered as the magnitudes are, infinities and NaNs above all numbers.
-const LARGEST_REAL: u32 = 0x5863_5FA9;
+pub const LARGEST_REAL: u32 = 0x5863_5FA9;
 const LONGEST_PERIOD: u32 = 3_600_000;
 const LONGEST_DURATION: u32 = i32::MAX as u32;
 

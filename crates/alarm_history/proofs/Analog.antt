@@ -14,19 +14,20 @@ use Rattle.settings.specs.declared.types.Kind.the-variants.{Analog}
 use Rattle.settings.specs.declared.types.Reading.{Reading}
 use Rattle.history.specs.Past.{Fact, since, holds, rowStart}
 use Rattle.history.specs.Demand.{activation, answer, return}
+use Rattle.history.specs.Internal.Row.{startKept, begun}
 use Rattle.history.specs.Internal.Condition.{kept, told, alarmAfter, unackedAfter, acknowledges, returns, activates}
 use Rattle.history.proofs.Condition.{kept-answers, kept-returns, kept-activates}
 use Rattle.level.specs.Level.{met, frees}
-use Rattle.level.specs.Rate.{sampleAfter}
-use Rattle.level.specs.declared.rate.Sample.{Sample}
+use Rattle.level.specs.Rate.{Sample, sampleAfter}
+use Rattle.condition.specs.Internal.Mark.{Marks, marksAfter}
 use Rattle.condition.specs.Command.{resets, acks, faults}
-use Rattle.alarm.specs.Internal.Held.{Six, HH, H, L, LL, ROCPos, ROCNeg, Side, High, Low, ofSix, AnalogHeld}
-use Rattle.alarm.specs.Internal.Analog.{analogRequired, analogEnabled, sideMet, analogReady, analogTold, analogAfter, cellEvents, analogEvents}
+use Rattle.step.specs.Internal.Held.{Six, HH, H, L, LL, ROCPos, ROCNeg, Side, High, Low, ofSix, AnalogHeld}
+use Rattle.step.specs.Internal.Analog.{analogRequired, analogEnabled, sideMet, analogReady, analogTold, analogAfter, cellEvents, analogEvents}
 use Rattle.alarm_history.specs.Scans.{Scan, previous, enabled, countReset, disabledIn, suppressedIn}
 use Rattle.alarm_history.specs.Facts.{sampleIn, metIn, freesIn, run, facts}
 use Rattle.alarm_history.specs.Stamps.{ownStart}
 use Rattle.alarm_history.specs.Internal.After.{levelOf, analogRun, keptIn, own, analogFrom, analogTurn, analogMarks, turnIn, marksIn, changes, wholeBits, conditionBits}
-use Rattle.alarm_history.proofs.Marks.{clear, marks-kept}
+use Rattle.alarm_history.proofs.Marks.{clear, lasted-is, same-marks, activated-start, marks-kept}
 use Rattle.alarm_history.proofs.Modes.{disabled-next, suppressed-next}
 
 -- a condition of a side adds nothing to its side
@@ -84,11 +85,10 @@ module _ (a : Alarm) (required : analogRequired (a .flags) ≡ ackRequired (a .k
     -- a condition is ready as the step has it
     ready : (c : Six) → analogReady a (s .reading) (s .word) (s .time) from c
         ≡ facts a .lasted (ofSix c) s past || (sideHas (ofSix c) was || isRate (ofSix c))
-    unfolding rowStart
-    ready HH = ap (λ (b : Bool). lasted (run a C.HH) || b) (sym (or-false (was C.HH || was C.H)))
-    ready H = λ i. lasted (high-run i) || sym (or-false (was C.HH || was C.H)) i
-    ready L = ap (λ (b : Bool). lasted (run a C.L) || b) (sym (or-false (was C.L || was C.LL)))
-    ready LL = λ i. lasted (low-run i) || sym (or-false (was C.L || was C.LL)) i
+    ready HH = λ i. lasted-is (a .duration) (run a C.HH) s past i || sym (or-false (was C.HH || was C.H)) i
+    ready H = λ i. (lasted-is (a .duration) (run a C.HH) s past ∙ ap lasted high-run) i || sym (or-false (was C.HH || was C.H)) i
+    ready L = λ i. lasted-is (a .duration) (run a C.L) s past i || sym (or-false (was C.L || was C.LL)) i
+    ready LL = λ i. (lasted-is (a .duration) (run a C.L) s past ∙ ap lasted low-run) i || sym (or-false (was C.L || was C.LL)) i
     ready ROCPos = sym (or-true (lasted (run a C.ROCPos)))
     ready ROCNeg = sym (or-true (lasted (run a C.ROCNeg)))
 
@@ -126,7 +126,7 @@ module _ (a : Alarm) (required : analogRequired (a .flags) ≡ ackRequired (a .k
         ∙ ap (λ (m : Bool). enabled s past && m) (sym (first-of (metIn a C.L s past) (metIn a C.LL s past)))
 
     next : analogAfter a (s .reading) (s .word) (s .time) from ≡ analogFrom a (s ∷ past)
-    unfolding kept rowStart since sampleIn
+    unfolding kept begun since sampleIn
     next =
         let d = sym (disabled-next s past) in
         let e = sym (suppressed-next s past) in
@@ -138,13 +138,13 @@ module _ (a : Alarm) (required : analogRequired (a .flags) ≡ ackRequired (a .k
           held = not (d i);
           previous = s .word;
           sample = sampled (d i);
-          run = λ side. record { on = goes-on side i; start = rowStart (λ x. x .time) (run a (levelOf side)) (s ∷ past) };
+          run = λ side. record { on = goes-on side i; start = startKept (goes-on side i) (holds (run a (levelOf side)) past) (s .time) (begun (λ x. x .time) (run a (levelOf side)) past) };
           cell = λ c.
               record {
                 alarm = alarmAfter (told-is c i) (was (ofSix c));
                 unacked = unackedAfter (told-is c i) (was (ofSix c)) (keptIn a past (ofSix c) .unacked);
                 row = not (d i) && metBy (d i) (ofSix c);
-                start = rowStart (λ x. x .time) (own a (ofSix c)) (s ∷ past);
+                start = startKept (not (d i) && metBy (d i) (ofSix c)) (holds (own a (ofSix c)) past) (s .time) (begun (λ x. x .time) (own a (ofSix c)) past);
               };
         }
 
@@ -158,11 +158,13 @@ module _ (a : Alarm) (required : analogRequired (a .flags) ≡ ackRequired (a .k
     activation-is : (c : Six) → activates (analogTold a (s .reading) (s .word) (s .time) from c) (was (ofSix c)) ≡ activation (facts a) (ofSix c) s past
     activation-is c = ap (λ t. activates t (was (ofSix c))) (told-is c) ∙ kept-activates (facts a) (freesIn a) (clear a) s past (ofSix c)
 
-    turn-is : (c : Six) → analogTurn a s from c ≡ turnIn a (ofSix c) s past
-    unfolding rowStart
-    turn-is c =
-        λ i.
-        record {
+    turn-is : (c : Six) (m : Marks) → marksAfter (analogTurn a s from c) m ≡ marksAfter (turnIn a (ofSix c) s past) m
+    turn-is c m =
+        same-marks (analogTurn a s from c) (ownStart a (ofSix c) s past)
+        (activated-start a (ofSix c) s past (analogTold a (s .reading) (s .word) (s .time) from c) (was (ofSix c))) m
+        ∙ (λ i.
+        marksAfter
+        (record {
           reset = countReset s past;
           acknowledged = answer-is c i;
           returned = return-is c i;
@@ -170,7 +172,7 @@ module _ (a : Alarm) (required : analogRequired (a .flags) ≡ ackRequired (a .k
           required = required i;
           start = ownStart a (ofSix c) s past;
           time = s .time;
-        }
+        }) m)
 
     -- the event bits of the step
     cell-bits : (c : Six) {rest rest′ : List Bool} → rest ≡ rest′
@@ -186,7 +188,7 @@ module _ (a : Alarm) (required : analogRequired (a .flags) ≡ ackRequired (a .k
         λ i. changes (disabledIn past) (suppressedIn past) (d i) (e i) (countReset s past) ++ six i
 
   pub analog-run : (scans : List Scan) → analogRun a scans ≡ analogFrom a scans
-  unfolding analogRun kept rowStart since sampleIn
+  unfolding analogRun kept begun since sampleIn
   analog-run [] = refl
   analog-run (s ∷ past) = ap (analogAfter a (s .reading) (s .word) (s .time)) (analog-run past) ∙ next s past
 
@@ -195,4 +197,4 @@ module _ (a : Alarm) (required : analogRequired (a .flags) ≡ ackRequired (a .k
   unfolding analogMarks
   analog-report scans c =
       marks-kept a (ofSix c) (λ l. analogMarks a l c) (λ s past. analogTurn a s (analogRun a past) c) refl (λ s past. refl)
-      (λ s past. ap (λ h. analogTurn a s h c) (analog-run past) ∙ turn-is s past c) scans
+      (λ s past m. ap (λ h. marksAfter (analogTurn a s h c) m) (analog-run past) ∙ turn-is s past c m) scans

@@ -10,9 +10,9 @@ use Rattle.settings.specs.declared.types.Severities.{Severities}
 use Rattle.settings.specs.declared.types.Kind.{Kind}
 use Rattle.settings.specs.declared.types.Kind.the-variants.{Digital, Analog}
 use Rattle.condition.specs.Event.{Event}
-use Rattle.alarm.specs.Internal.Digital.{digitalEvents}
-use Rattle.alarm.specs.Internal.Analog.{analogEvents}
-use Rattle.alarm.specs.Internal.Events.{eventAt, eventsFrom}
+use Rattle.step.specs.Internal.Digital.{digitalEvents}
+use Rattle.step.specs.Internal.Analog.{analogEvents}
+use Rattle.step.specs.Internal.Events.{eventAt, eventsFrom}
 use Rattle.alarm_history.specs.Scans.{Scan, suppressedIn}
 use Rattle.alarm_history.specs.Events.{conditionEvent, wholeLog, conditionLog, alarmLog}
 use Rattle.alarm_history.specs.Internal.After.{digitalFrom, analogFrom, wholeBits, conditionBits}

@@ -10,8 +10,7 @@ use Rattle.history.specs.Past.{Fact, holds, rowStart}
 use Rattle.history.specs.Demand.{Facts}
 use Rattle.condition.specs.Command.{resets, acks}
 use Rattle.level.specs.Level.{met, frees}
-use Rattle.level.specs.Rate.{sampleAfter, noSample}
-use Rattle.level.specs.declared.rate.Sample.{Sample}
+use Rattle.level.specs.Rate.{Sample, sampleAfter, noSample}
 use Rattle.alarm_history.specs.Scans.{Scan, previous, enabled, countReset}
 
 module _ (a : Alarm) where

@@ -1,3 +1,6 @@
 -- What contracts and proofs use and a reader need not believe.
 pub mod Bank
+pub mod Plan
 pub mod Scan
+pub mod Words
+pub mod Load

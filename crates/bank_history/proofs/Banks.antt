@@ -4,10 +4,13 @@ use mathlib.Core.Bool.{false}
 use mathlib.Core.List.{List, [], _∷_}
 use Prim.Native.Nat.{ℕ, zero, suc, _+_, _*_, _≤_, _<_}
 use native.Mathlib.Omega.{arith}
+use lib.Ieee.{binary32}
+use lib.Ieee.Bits.{ofBits-fits}
 use lib.ListN.{length, getD, replicate, length-replicate, getD-replicate}
 use Rattle.wire.specs.Bits.{bit}
+use Rattle.wire.specs.Number.{number}
 use Rattle.condition.specs.Internal.Mark.{marksAfter, timeStampAfter, noMarks}
-use Rattle.settings.specs.Alarm.{ackRequired}
+use Rattle.settings.specs.Alarm.{ackRequired, formAt}
 use Rattle.settings.specs.Internal.Sound.{Sound}
 use Rattle.settings.specs.declared.types.Alarm.{Alarm}
 use Rattle.settings.specs.declared.types.Settings.{Settings}
@@ -15,30 +18,30 @@ use Rattle.settings.specs.declared.types.Limits.{Limits}
 use Rattle.settings.specs.declared.types.Severities.{Severities}
 use Rattle.settings.specs.declared.types.Kind.{Kind}
 use Rattle.settings.specs.declared.types.Kind.the-variants.{Digital, Analog}
+use Rattle.settings.specs.declared.types.Form.{Form}
 use Rattle.settings.specs.declared.types.Form.the-variants.{Digital as DigitalForm, Analog as AnalogForm}
 use Rattle.settings.specs.declared.reply.Reply.the-variants.{Accepted}
 use Rattle.image.specs.Internal.Accepted.{AcceptedFrom}
-use Rattle.alarm.specs.Internal.Held.{freshState, lookDigital, lookAnalog, runOf, cellOf, Six, HH, H, L, LL, ROCPos, ROCNeg, Side, High, Low, place}
-use Rattle.alarm.specs.Internal.Digital.{digitalStep}
-use Rattle.alarm.specs.Internal.Analog.{analogStep}
-use Rattle.alarm.specs.Internal.Step.{stepKind, stepOf}
-use Rattle.alarm.specs.declared.state.State.{State}
-use Rattle.alarm.specs.declared.state.Stepped.{Stepped}
+use Rattle.step.specs.Internal.Held.{freshState, lookDigital, lookAnalog, runOf, cellOf, Six, HH, H, L, LL, ROCPos, ROCNeg, Side, High, Low, place}
+use Rattle.step.specs.Internal.Digital.{digitalStep}
+use Rattle.step.specs.Internal.Analog.{analogStep}
+use Rattle.step.specs.Internal.Step.{stepKind, stepOf}
+use Rattle.step.specs.Internal.State.{State, Stepped, startsOf}
+use Rattle.step.proofs.Laws.{InRecord}
 use Rattle.alarm_history.specs.Scans.{Scan}
 use Rattle.alarm_history.specs.Internal.After.{freshAnalog, resetKept, digitalRun, analogRun, digitalMarks, analogMarks}
 use Rattle.alarm_history.proofs.Digital.{digital-required}
 use Rattle.alarm_history.proofs.Analog.{analog-required}
-use Rattle.scan_record.specs.Part.{timeOf}
+use Rattle.scan_record.specs.Part.{timeOf, readingAt, offsetOf}
 use Rattle.scan_record.specs.declared.entry.Entry.{Entry}
 use Rattle.scan_record.proofs.Entries.{PartRead, all-read, accepted-says}
 use Rattle.marks.specs.Internal.Marks.{marksAt, turnAt}
 use Rattle.marks.proofs.Reading.{marks-length, mark-read, reset-read}
-use Rattle.steps.specs.Internal.Plan.{stepEntry, stepPart, stepAt, planOf}
-use Rattle.steps.proofs.Alarms.{length-placed, placed-below}
-use Rattle.steps.proofs.Counts.{word-at}
-use Rattle.bank.specs.Internal.Bank.{freshBank}
+use Rattle.bank.specs.Internal.Plan.{stepEntry, stepPart, stepAt, planOf}
+use Rattle.bank.proofs.Places.{length-placed, placed-below}
+use Rattle.bank.proofs.Plans.{word-at}
+use Rattle.bank.specs.Internal.Bank.{Bank, freshBank}
 use Rattle.bank.specs.Internal.Scan.{checkOf, alarmsOf, planFor, bankAfter}
-use Rattle.bank.specs.declared.bank.Bank.{Bank}
 use Rattle.bank_history.specs.Answers.{alarmAt, scanAt, scansAt, lastAccepted}
 use Rattle.bank_history.proofs.Views.{DigitalView, digital-view, AnalogView, analog-view}
 
@@ -50,7 +53,7 @@ pub record Kept (image : List ℕ) (past : List (List ℕ)) (b : Bank) : Type 0 
   pub sound : AcceptedFrom image (b .settings)
   pub time : b .time ≡ lastAccepted past
   pub states-long : length (b .states) ≡ 24
-  pub marks-long : length (b .marks) ≡ 600
+  pub marks-long : length (b .marks) ≡ 900
   pub digital : (p : ℕ) → p < b .settings .digital
       → DigitalView (alarmAt (b .settings) p) (stateAt b p) (b .marks) (25 * p) (scansAt (b .settings) p past)
   pub analog : (p : ℕ) → b .settings .digital ≤ p → p < b .settings .digital + b .settings .analog
@@ -63,9 +66,9 @@ zeros zero j = refl
 zeros (suc n) zero = refl
 zeros (suc n) (suc j) = zeros n j
 
-no-marks : (at : ℕ) → marksAt (replicate 600 0) at ≡ noMarks
+no-marks : (at : ℕ) → marksAt (replicate 900 0) at ≡ noMarks
 no-marks at =
-    λ i. record { count = zeros 600 at i; alarm = zeros 600 (at + 1) i; ack = zeros 600 (at + 2) i; return = zeros 600 (at + 3) i }
+    λ i. record { count = zeros 900 at i; alarm = zeros 900 (at + 1) i; ack = zeros 900 (at + 2) i; return = zeros 900 (at + 3) i }
 
 fresh-run : (s : Side) → runOf freshState s ≡ freshAnalog .run s
 fresh-run High = refl
@@ -100,18 +103,18 @@ fresh-kept image s ok =
       sound = ok;
       time = refl;
       states-long = length-replicate 24 freshState;
-      marks-long = length-replicate {A = ℕ} 600 0;
+      marks-long = length-replicate {A = ℕ} 900 0;
       digital = λ p h.
           record {
             held = ap lookDigital (getD-replicate 24 p freshState freshState (omega (arith, ok .digital-most)));
             marked = no-marks (25 * p + 1);
-            stamped = zeros 600 (25 * p);
+            stamped = zeros 900 (25 * p);
           };
       analog = λ p l h.
           record {
             held = ap lookAnalog (getD-replicate 24 p freshState freshState (omega (arith, ok .digital-most, ok .analog-most))) ∙ fresh-analog;
             marked = λ c. no-marks (25 * p + 1 + 4 * place c);
-            stamped = zeros 600 (25 * p);
+            stamped = zeros 900 (25 * p);
           };
     }
 
@@ -135,6 +138,11 @@ place-six ROCPos = omega arith
 place-six ROCNeg = omega arith
 
 -- ---- one more record that passed the check
+
+-- a reading of a record is a REAL of 32 bits, or a digital one
+in-record : (f : Form) (rec : List ℕ) (at : ℕ) → InRecord (readingAt f rec at)
+in-record DigitalForm rec at = tt
+in-record AnalogForm rec at = ofBits-fits binary32 (number rec at 4)
 
 module _ (image : List ℕ) (past : List (List ℕ)) (b : Bank) (rec : List ℕ) (v : Kept image past b) (ok : checkOf b rec ≡ Accepted) where
   abbrev digital : ℕ
@@ -187,19 +195,23 @@ module _ (image : List ℕ) (past : List (List ℕ)) (b : Bank) (rec : List ℕ)
   abbrev marksNext : List ℕ
   marksNext = bankAfter b rec .marks
 
+  -- the starts of the conditions' rows of the alarm at a place, after the record
+  abbrev starts : ℕ → List ℕ
+  starts p = startsOf (getD (planFor b rec .states) p freshState)
+
   marked-after : (p c : ℕ) → p < alarmsOf b → c < 6 → {r : Stepped} → stepAt rec digital (b .settings .alarms) (b .states) (timeOf rec) p ≡ r
       → marksAt marksNext (25 * p + 1 + 4 * c)
-      ≡ marksAfter (turnAt (ackRequired (alarm p .kind) (alarm p .flags)) (r .state) (r .events) (timeOf rec) c) (marksAt (b .marks) (25 * p + 1 + 4 * c))
+      ≡ marksAfter (turnAt (ackRequired (alarm p .kind) (alarm p .flags)) (startsOf (r .state)) (r .events) (timeOf rec) c) (marksAt (b .marks) (25 * p + 1 + 4 * c))
   marked-after p c h l {r} e =
       let w = word-after p h ∙ ap (λ (t : Stepped). t .events) e in
       let s = state-after p h ∙ ap (λ (t : Stepped). t .state) e in
-      mark-read (b .settings .alarms) (planFor b rec .states) (planFor b rec .events) (timeOf rec) (alarmsOf b) p c (b .marks) h l (omega (arith, most, v .marks-long))
-      ∙ (λ i. marksAfter (turnAt (ackRequired (alarm p .kind) (alarm p .flags)) (s i) (w i) (timeOf rec) c) (marksAt (b .marks) (25 * p + 1 + 4 * c)))
+      mark-read (b .settings .alarms) starts (planFor b rec .events) (timeOf rec) (alarmsOf b) p c (b .marks) h l (omega (arith, most, v .marks-long))
+      ∙ (λ i. marksAfter (turnAt (ackRequired (alarm p .kind) (alarm p .flags)) (startsOf (s i)) (w i) (timeOf rec) c) (marksAt (b .marks) (25 * p + 1 + 4 * c)))
 
   stamped-after : (p : ℕ) → p < alarmsOf b → {r : Stepped} → stepAt rec digital (b .settings .alarms) (b .states) (timeOf rec) p ≡ r
       → getD marksNext (25 * p) 0 ≡ timeStampAfter (bit (r .events) 4) (timeOf rec) (getD (b .marks) (25 * p) 0)
   stamped-after p h {r} e =
-      reset-read (b .settings .alarms) (planFor b rec .states) (planFor b rec .events) (timeOf rec) (alarmsOf b) p (b .marks) h (omega (arith, most, v .marks-long))
+      reset-read (b .settings .alarms) starts (planFor b rec .events) (timeOf rec) (alarmsOf b) p (b .marks) h (omega (arith, most, v .marks-long))
       ∙ ap (λ (w : ℕ). timeStampAfter (bit w 4) (timeOf rec) (getD (b .marks) (25 * p) 0)) (word-after p h ∙ ap (λ (t : Stepped). t .events) e)
 
   digital-next : (p : ℕ) → p < digital
@@ -220,7 +232,7 @@ module _ (image : List ℕ) (past : List (List ℕ)) (b : Bank) (rec : List ℕ)
       let e = analog-stepped p l h in
       subst (λ (s : State). AnalogView (alarm p) s marksNext (25 * p) (scansAt (b .settings) p (rec ∷ past)))
       (sym (state-after p h ∙ ap (λ (t : Stepped). t .state) e))
-      (analog-view (alarm p) (stateAt b p) (seen p) (b .marks) marksNext (25 * p) (scansAt (b .settings) p past) (v .analog p l h)
+      (analog-view (alarm p) (stateAt b p) (seen p) (in-record (formAt digital p) rec (offsetOf digital p)) (b .marks) marksNext (25 * p) (scansAt (b .settings) p past) (v .analog p l h)
       (λ c. rw (← analog-required (alarm p) (analog-of p l h .3)) at (marked-after p (place c) h (place-six c) e))
       (stamped-after p h e))
 
@@ -231,7 +243,7 @@ module _ (image : List ℕ) (past : List (List ℕ)) (b : Bank) (rec : List ℕ)
         sound = v .sound;
         time = refl;
         states-long = length-placed (λ q. stepAt rec digital (b .settings .alarms) (b .states) (timeOf rec) q .state) (alarmsOf b) (b .states) ∙ v .states-long;
-        marks-long = marks-length (b .settings .alarms) (planFor b rec .states) (planFor b rec .events) (timeOf rec) (alarmsOf b) (b .marks) ∙ v .marks-long;
+        marks-long = marks-length (b .settings .alarms) starts (planFor b rec .events) (timeOf rec) (alarmsOf b) (b .marks) ∙ v .marks-long;
         digital = digital-next;
         analog = analog-next;
       }

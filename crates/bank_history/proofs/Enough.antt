@@ -13,24 +13,23 @@ use Rattle.wire.specs.Internal.Words.{wordOf}
 use Rattle.settings.specs.declared.reply.Reply.the-variants.{Accepted}
 use Rattle.settings.specs.declared.types.Kind.{Kind}
 use Rattle.settings.specs.declared.types.Kind.the-variants.{Digital, Analog}
-use Rattle.alarm.specs.Internal.Held.{lookDigital, lookAnalog}
-use Rattle.alarm.specs.Internal.Digital.{digitalEvents, digitalStep}
-use Rattle.alarm.specs.Internal.Analog.{analogEvents, analogStep}
+use Rattle.step.specs.Internal.Held.{lookDigital, lookAnalog}
+use Rattle.step.specs.Internal.Digital.{digitalEvents, digitalStep}
+use Rattle.step.specs.Internal.Analog.{analogEvents, analogStep}
 use Rattle.settings.specs.declared.types.Alarm.{Alarm}
-use Rattle.alarm.specs.Internal.Step.{stepKind}
-use Rattle.alarm.specs.declared.state.State.{State}
+use Rattle.step.specs.Internal.Step.{stepKind}
+use Rattle.step.specs.Internal.State.{State}
 use Rattle.settings.specs.declared.types.Reading.{Reading}
-use Rattle.alarm.proofs.Laws.{number, digital-most, analog-most}
-use Rattle.scan_record.specs.Part.{timeOf, formAt, offsetOf}
+use Rattle.step.proofs.Laws.{number, digital-most, analog-most}
+use Rattle.scan_record.specs.Part.{timeOf, offsetOf}
+use Rattle.settings.specs.Alarm.{formAt}
 use Rattle.scan_record.specs.Entry.{entryAt}
 use Rattle.scan_record.specs.declared.entry.Entry.{Entry}
 use Rattle.scan_record.specs.declared.entry.Entry.the-variants.{Read, Refused}
-use Rattle.steps.specs.Internal.Plan.{stepEntry, stepPart, stepAt, countOf}
-use Rattle.steps.proofs.Logs.{up-to-count}
-use Rattle.steps.proofs.Counts.{word-at, word-small}
-use Rattle.bank.specs.Internal.Scan.{checkOf, alarmsOf, planFor, eventsIn, checkedScan, scanOf}
-use Rattle.bank.specs.declared.bank.Bank.{Bank}
-use Rattle.bank.specs.declared.scan.Scanned.{Scanned}
+use Rattle.bank.specs.Internal.Plan.{stepEntry, stepPart, stepAt, countOf}
+use Rattle.bank.proofs.Plans.{word-at, word-small, up-to-count}
+use Rattle.bank.specs.Internal.Scan.{Scanned, checkOf, alarmsOf, planFor, eventsIn, checkedScan, scanOf}
+use Rattle.bank.specs.Internal.Bank.{Bank}
 use Rattle.bank.proofs.Scans.{accepted-scan}
 use Rattle.bank_history.specs.Answers.{alarmAt, isAccepted}
 use Rattle.bank_history.proofs.Banks.{Kept, stateAt, digital-kind}

@@ -4,4 +4,5 @@ mod Logs
 pub mod Lists
 pub mod Enough
 mod Reported
+mod Lent
 pub mod Statements

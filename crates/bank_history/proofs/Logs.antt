@@ -11,21 +11,21 @@ use lib.ListN.{getD}
 use Rattle.settings.specs.declared.types.Alarm.{Alarm}
 use Rattle.settings.specs.declared.reply.Reply.the-variants.{Accepted}
 use Rattle.condition.specs.Event.{Event}
-use Rattle.alarm.specs.Internal.Held.{DigitalHeld, AnalogHeld, freshState}
-use Rattle.alarm.specs.Internal.Digital.{digitalEvents}
-use Rattle.alarm.specs.Internal.Analog.{analogEvents}
-use Rattle.alarm.specs.Internal.Events.{eventsFrom}
-use Rattle.alarm.specs.declared.state.Stepped.{Stepped}
+use Rattle.step.specs.Internal.Held.{DigitalHeld, AnalogHeld, freshState}
+use Rattle.step.specs.Internal.Digital.{digitalEvents}
+use Rattle.step.specs.Internal.Analog.{analogEvents}
+use Rattle.step.specs.Internal.Events.{eventsFrom}
+use Rattle.step.specs.Internal.State.{Stepped}
 use Rattle.alarm_history.specs.Scans.{Scan}
 use Rattle.alarm_history.specs.Events.{alarmLog}
 use Rattle.alarm_history.proofs.Digital.{digital-required, digital-run}
 use Rattle.alarm_history.proofs.Analog.{analog-required, analog-run}
 use Rattle.alarm_history.proofs.Events.{digital-log-is, analog-log-is}
 use Rattle.scan_record.specs.Part.{timeOf}
-use Rattle.steps.specs.Internal.Plan.{alarmEvents, eventsUpTo}
-use Rattle.steps.proofs.Logs.{digital-log, analog-log}
+use Rattle.bank.specs.Internal.Plan.{alarmEvents, eventsUpTo}
+use Rattle.bank.proofs.Plans.{digital-log, analog-log}
 use Rattle.bank.specs.Internal.Scan.{checkOf, alarmsOf, planFor, eventsIn}
-use Rattle.bank.specs.declared.bank.Bank.{Bank}
+use Rattle.bank.specs.Internal.Bank.{Bank}
 use Rattle.bank_history.specs.Answers.{alarmAt, scanAt, scansAt, scanLog, logOf}
 use Rattle.bank_history.proofs.Banks.{Kept, stateAt, digital-of, analog-of, digital-stepped, analog-stepped, word-after, next-kept}
 

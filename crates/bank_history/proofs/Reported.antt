@@ -14,21 +14,22 @@ use Rattle.settings.specs.declared.types.Limits.{Limits}
 use Rattle.settings.specs.declared.types.Severities.{Severities}
 use Rattle.settings.specs.declared.types.Kind.{Kind}
 use Rattle.settings.specs.declared.types.Kind.the-variants.{Digital, Analog}
-use Rattle.history.specs.Past.{holds, rowStart}
+use Rattle.history.specs.Past.{Fact, holds}
+use Rattle.history.specs.Internal.Row.{begun}
 use Rattle.history.proofs.Condition.{kept-alarm, kept-unacked}
 use Rattle.condition.specs.Severity.{severityInvalid}
 use Rattle.condition.specs.Internal.Mark.{Marks}
-use Rattle.alarm.specs.Internal.Held.{Six, HH, H, L, LL, ROCPos, ROCNeg, ofSix, place, DigitalHeld, lookDigital, AnalogHeld, lookAnalog}
-use Rattle.alarm.specs.declared.state.State.{State}
+use Rattle.step.specs.Internal.Held.{Six, HH, H, L, LL, ROCPos, ROCNeg, ofSix, place, DigitalHeld, lookDigital, AnalogHeld, lookAnalog}
+use Rattle.step.specs.Internal.State.{State}
 use Rattle.alarm_history.specs.Scans.{Scan, disabledIn, suppressedIn, faultedIn, lastTime}
 use Rattle.alarm_history.specs.Facts.{sampleIn, freesIn, facts}
 use Rattle.alarm_history.specs.Stamps.{resetStamp}
 use Rattle.alarm_history.specs.Internal.After.{elapsed, digitalRun, digitalFrom, analogRun, analogFrom, marksIn}
-use Rattle.alarm_history.proofs.Marks.{clear, reset-stamp}
+use Rattle.alarm_history.proofs.Marks.{clear, elapsed-is, reset-stamp}
 use Rattle.alarm_history.proofs.Digital.{digital-required, digital-rate, run-own, digital-run, digital-report}
 use Rattle.alarm_history.proofs.Analog.{analog-required, analog-run, analog-report}
 use Rattle.bank.specs.Internal.Scan.{alarmsOf}
-use Rattle.bank.specs.declared.bank.Bank.{Bank}
+use Rattle.bank.specs.Internal.Bank.{Bank}
 use Rattle.report.specs.Empty.{noStatus, noStatuses}
 use Rattle.report.specs.Internal.Status.{digitalStatuses, analogStatuses, statusesOf}
 use Rattle.report.specs.Internal.Whole.{anyInvalid, digitalWhole, analogWhole, wholeKind, wholeOf}
@@ -82,6 +83,10 @@ module _ (a : Alarm) (s : State) (words : List ℕ) (at time : ℕ) (scans : Lis
         conditions = take 6 (map (statusOf a scans) (conditionsOf q) ++ noStatuses);
       }
 
+  -- how long the run of scans with p has lasted, from the start that is kept
+  abbrev lasts : Fact Scan → ℕ
+  lasts p = elapsed (a .duration) (holds p scans) (begun (λ x. x .time) p scans) (lastTime scans)
+
   -- a condition's status, from what is kept of it
   abbrev statusBy : Bool → Bool → Marks → Status
   statusBy alarm unacked m =
@@ -103,8 +108,7 @@ module _ (a : Alarm) (s : State) (words : List ℕ) (at time : ℕ) (scans : Lis
           infaulted = faultedIn scans;
           severityinv = sym (or-false (severityInvalid severity)) i;
           rate = sym (digital-rate a k scans) i;
-          high = elapsed (a .duration) (holds (sym (run-own a (digital-required a k)) i) scans)
-              (rowStart (λ x. x .time) (sym (run-own a (digital-required a k)) i) scans) (lastTime scans);
+          high = (ap lasts (sym (run-own a (digital-required a k))) ∙ elapsed-is a In scans) i;
           low = 0;
         })
 
@@ -137,15 +141,16 @@ module _ (a : Alarm) (s : State) (words : List ℕ) (at time : ℕ) (scans : Lis
     analog-whole : analogWhole severities (a .duration) (lookAnalog s) time ≡ said (Analog g severities period) .alarm
     analog-whole =
         ap₂ (λ (h : AnalogHeld) (u : ℕ). analogWhole severities (a .duration) h u) held-analog t
-        ∙ ap (λ (x : Bool). record {
+        ∙ (λ i.
+        record {
           enabled = not (disabledIn scans);
           suppressed = suppressedIn scans;
           infaulted = faultedIn scans;
-          severityinv = x;
+          severityinv = any-invalid severities g period i;
           rate = sampleIn a scans .rate;
-          high = highRun (Analog g severities period) a scans;
-          low = lowRun (Analog g severities period) a scans;
-        }) (any-invalid severities g period)
+          high = elapsed-is a C.HH scans i;
+          low = elapsed-is a C.L scans i;
+        })
 
     analog-status : (c : Six) → getD (analogStatuses words at (s .flags)) (place c) noStatus ≡ statusOf a scans (ofSix c)
     analog-status c =

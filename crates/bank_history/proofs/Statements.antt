@@ -25,19 +25,21 @@ use Rattle.image.proofs.RoundTrip as RoundTrip
 use Rattle.scan_record.specs.Check.{checkRecord}
 use Rattle.settings.specs.declared.reply.Reply.the-variants.{Accepted}
 use Rattle.alarm_history.specs.Facts.{facts}
-use Rattle.bank.specs.Internal.Bank.{freshBank, loadOf}
+use Rattle.bank.specs.Internal.Bank.{Bank, freshBank, loadOf}
 use Rattle.bank.specs.Internal.Scan.{alarmsOf, scanOf, eventBuffer}
-use Rattle.bank.specs.declared.bank.Bank.{Bank}
+use Rattle.bank.specs.Lent.{Words}
+use Rattle.bank.specs.Internal.Words.{fitOf, bankIn, answerOf}
 use Rattle.report.specs.Empty.{noStatus, noStatuses, noReport}
-use Rattle.report.specs.Internal.Report.{isThere, reportAt, reportOf}
+use Rattle.report.specs.Internal.Report.{isThere, reportAt, reportOf, reportIn}
 use Rattle.report.specs.declared.status.Status.{Status}
 use Rattle.report.specs.declared.report.AlarmReport.{AlarmReport}
 use Rattle.bank_history.specs.Calls.{Call}
 use Rattle.bank_history.specs.Answers.{alarmAt, scansAt, lastAccepted, answerTo, bufferAfter, isAccepted}
 use Rattle.bank_history.specs.Report.{statusOf, alarmReport, reportAfter}
-use Rattle.bank_history.specs.Statements.{Good, settings, bank, records, Replies, EveryReply, DemandThree, TwoReceivers}
+use Rattle.bank_history.specs.Statements.{Good, settings, words, records, Replies, EveryReply, DemandThree, TwoReceivers}
 use Rattle.bank_history.proofs.Banks.{Kept, fresh-kept}
-use Rattle.bank_history.proofs.Lists.{scan-said, buffer-said, kept-after}
+use Rattle.bank_history.proofs.Lists.{scan-said, buffer-said, bankAfterAll, kept-after}
+use Rattle.bank_history.proofs.Lent.{answer-on, buffer-on, report-on, write-on, written-on, lent-bank}
 use Rattle.bank_history.proofs.Enough.{enough, accepted-with-room}
 use Rattle.bank_history.proofs.Reported.{report-at}
 
@@ -64,7 +66,10 @@ module _ (image : List ℕ) (calls : List Call) (good : Good image) where
   s = settings image
 
   abbrev b : Bank
-  b = bank image calls
+  b = bankAfterAll (loadOf image .bank) calls
+
+  abbrev w : Words
+  w = words image calls
 
   abbrev past : List (List ℕ)
   past = records image calls
@@ -72,6 +77,13 @@ module _ (image : List ℕ) (calls : List Call) (good : Good image) where
   after-all : Kept image past b × (b .settings ≡ s)
   unfolding loadOf freshBank
   after-all = kept-after image calls [] (loadOf image .bank) (fresh-kept image s (RoundTrip.accepted image (good .0) (good .1)))
+
+  -- the words stand for it
+  fits : fitOf w ≡ Accepted
+  fits = lent-bank image calls (good .0) .0
+
+  stands : bankIn w ≡ b
+  stands = lent-bank image calls (good .0) .1
 
   kept : Kept image past b
   kept = after-all .0
@@ -126,16 +138,27 @@ module _ (image : List ℕ) (calls : List Call) (good : Good image) where
   unfolding imageBuffer
   written-said out = rw (stay, RoundTrip.room-is image (good .0) (good .1) (length out), image-is)
 
+  -- ---- of the words
+
+  to-bank : (rec : List ℕ) (room : ℕ) → answerOf w rec room ≡ scanOf b rec room .answer
+  to-bank rec room = answer-on w fits rec room ∙ ap (λ (x : Bank). scanOf x rec room .answer) stands
+
+  lent-answer : (rec : List ℕ) (room : ℕ) → answerOf w rec room ≡ answerTo s past rec room
+  lent-answer rec room = to-bank rec room ∙ answer-said rec room
+
+  lent-report : (n : ℕ) → reportIn w n ≡ reportAfter s past n
+  lent-report n = report-on w fits n ∙ ap (λ (x : Bank). reportOf x n) stands ∙ report-said n
+
   replies : Replies image calls
   replies =
       record {
-        accepting = λ c. ap isAccepted (answer-said (c .bytes) (length (c .buffer)));
-        answer = answer-said;
-        buffer = event-bytes-said;
-        suffices = suffices;
-        report = report-said;
-        write = write-said;
-        image-written = written-said;
+        accepting = λ c. ap isAccepted (lent-answer (c .bytes) (length (c .buffer)));
+        answer = lent-answer;
+        buffer = λ rec out. buffer-on w fits rec out ∙ ap (λ (x : Bank). eventBuffer x rec out) stands ∙ event-bytes-said rec out;
+        suffices = λ rec room ok h. ap isAccepted (to-bank rec room) ∙ suffices rec room ok h;
+        report = lent-report;
+        write = λ room. write-on w fits room ∙ ap (λ (x : Bank). writtenOf (x .settings) room) stands ∙ write-said room;
+        image-written = λ out. written-on w fits out ∙ ap (λ (x : Bank). imageBuffer (x .settings) out) stands ∙ written-said out;
       }
 
   -- ---- demand 3
@@ -147,16 +170,16 @@ module _ (image : List ℕ) (calls : List Call) (good : Good image) where
     abbrev scans : List Scan
     scans = scansAt s (n - 1) past
 
-    there : reportOf b n ≡ alarmReport a scans
-    there = report-said n ∙ ap (λ (t : Bool). cond t (alarmReport a scans) noReport) (ap₂ (λ (x y : Bool). x && y) (le-leb 1 n low) (le-leb n (s .digital + s .analog) high))
+    there : reportIn w n ≡ alarmReport a scans
+    there = lent-report n ∙ ap (λ (t : Bool). cond t (alarmReport a scans) noReport) (ap₂ (λ (x y : Bool). x && y) (le-leb 1 n low) (le-leb n (s .digital + s .analog) high))
 
-    reported : getD (reportOf b n .conditions) i noStatus ≡ statusOf a scans (getD (conditionsOf (a .kind)) i In)
+    reported : getD (reportIn w n .conditions) i noStatus ≡ statusOf a scans (getD (conditionsOf (a .kind)) i In)
     reported =
         ap (λ (r : AlarmReport). getD (r .conditions) i noStatus) there
         ∙ status-at (a .kind) (statusOf a scans) i h
 
-    demanded : Demand3 (facts a) (getD (reportOf b n .conditions) i noStatus .alarm) (not (getD (reportOf b n .conditions) i noStatus .acked))
-        (getD (reportOf b n .conditions) i noStatus .count) scans (getD (conditionsOf (a .kind)) i In)
+    demanded : Demand3 (facts a) (getD (reportIn w n .conditions) i noStatus .alarm) (not (getD (reportIn w n .conditions) i noStatus .acked))
+        (getD (reportIn w n .conditions) i noStatus .count) scans (getD (conditionsOf (a .kind)) i In)
     demanded =
         let c = getD (conditionsOf (a .kind)) i In in
         subst (λ (x : Status). Demand3 (facts a) (x .alarm) (not (x .acked)) (x .count) scans c) (sym reported)

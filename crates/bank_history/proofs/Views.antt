@@ -9,12 +9,11 @@ use Rattle.wire.proofs.WordLaws.{bit-word}
 use Rattle.condition.specs.Command.{countResets}
 use Rattle.condition.specs.Internal.Mark.{Turn, marksAfter, timeStampAfter}
 use Rattle.settings.specs.declared.types.Alarm.{Alarm}
-use Rattle.alarm.specs.Internal.Held.{DigitalHeld, lookDigital, Six, HH, H, L, LL, ROCPos, ROCNeg, place, AnalogHeld, lookAnalog}
-use Rattle.alarm.specs.Internal.Digital.{digitalRequired, digitalAfter, digitalEvents, digitalStep}
-use Rattle.alarm.specs.Internal.Analog.{analogRequired, analogAfter, analogEvents, analogStep}
-use Rattle.alarm.specs.declared.state.State.{State}
-use Rattle.alarm.specs.declared.state.Stepped.{Stepped}
-use Rattle.alarm.proofs.Laws.{look-digital, look-analog}
+use Rattle.step.specs.Internal.Held.{DigitalHeld, lookDigital, Six, HH, H, L, LL, ROCPos, ROCNeg, place, AnalogHeld, lookAnalog}
+use Rattle.step.specs.Internal.Digital.{digitalRequired, digitalAfter, digitalEvents, digitalStep}
+use Rattle.step.specs.Internal.Analog.{analogRequired, analogAfter, analogEvents, analogStep}
+use Rattle.step.specs.Internal.State.{State, Stepped, startsOf}
+use Rattle.step.proofs.Laws.{look-digital, InRecord, look-analog}
 use Rattle.alarm_history.specs.Scans.{Scan}
 use Rattle.alarm_history.specs.Internal.After.{resetKept, digitalRun, analogRun, digitalTurn, digitalMarks, analogTurn, analogMarks}
 use Rattle.marks.specs.Internal.Marks.{marksAt, turnAt}
@@ -38,12 +37,12 @@ module _ (a : Alarm) (s : State) (x : Scan) where
   unfolding digitalStep
   digital-bit k = bit-word digital-bits k
 
-  digital-turn : turnAt (digitalRequired (a .flags)) (digitalStepped .state) (digitalStepped .events) (x .time) 0 ≡ digitalTurn a x (lookDigital s)
+  digital-turn : turnAt (digitalRequired (a .flags)) (startsOf (digitalStepped .state)) (digitalStepped .events) (x .time) 0 ≡ digitalTurn a x (lookDigital s)
   unfolding digitalStep
   digital-turn = rw (digital-bit 4, digital-bit 6, digital-bit 7, digital-bit 8) refl
 
   pub digital-view : (words words′ : List ℕ) (at : ℕ) (past : List Scan) → DigitalView a s words at past
-      → marksAt words′ (at + 1) ≡ marksAfter (turnAt (digitalRequired (a .flags)) (digitalStepped .state) (digitalStepped .events) (x .time) 0) (marksAt words (at + 1))
+      → marksAt words′ (at + 1) ≡ marksAfter (turnAt (digitalRequired (a .flags)) (startsOf (digitalStepped .state)) (digitalStepped .events) (x .time) 0) (marksAt words (at + 1))
       → getD words′ at 0 ≡ timeStampAfter (bit (digitalStepped .events) 4) (x .time) (getD words at 0)
       → DigitalView a (digitalStepped .state) words′ at (x ∷ past)
   unfolding digitalRun digitalMarks resetKept digitalStep
@@ -76,7 +75,7 @@ module _ (a : Alarm) (s : State) (x : Scan) where
 
   -- what the scan did to a condition, by the event word
   abbrev pub turnBits : Six → Turn
-  turnBits c = turnAt (analogRequired (a .flags)) (analogStepped .state) (analogStepped .events) (x .time) (place c)
+  turnBits c = turnAt (analogRequired (a .flags)) (startsOf (analogStepped .state)) (analogStepped .events) (x .time) (place c)
 
   analog-turn : (c : Six) → turnBits c ≡ analogTurn a x (lookAnalog s) c
   unfolding analogStep
@@ -87,14 +86,14 @@ module _ (a : Alarm) (s : State) (x : Scan) where
   analog-turn ROCPos = rw (analog-bit 4, analog-bit 18, analog-bit 19, analog-bit 20) refl
   analog-turn ROCNeg = rw (analog-bit 4, analog-bit 21, analog-bit 22, analog-bit 23) refl
 
-  pub analog-view : (words words′ : List ℕ) (at : ℕ) (past : List Scan) → AnalogView a s words at past
+  pub analog-view : InRecord (x .reading) → (words words′ : List ℕ) (at : ℕ) (past : List Scan) → AnalogView a s words at past
       → ((c : Six) → marksAt words′ (at + 1 + 4 * place c) ≡ marksAfter (turnBits c) (marksAt words (at + 1 + 4 * place c)))
       → getD words′ at 0 ≡ timeStampAfter (bit (analogStepped .events) 4) (x .time) (getD words at 0)
       → AnalogView a (analogStepped .state) words′ at (x ∷ past)
   unfolding analogRun analogMarks resetKept analogStep
-  analog-view words words′ at past v m r =
+  analog-view f words words′ at past v m r =
       record {
-        held = look-analog (analogAfter a (x .reading) (x .word) (x .time) (lookAnalog s)) ∙ ap (analogAfter a (x .reading) (x .word) (x .time)) (v .held);
+        held = look-analog a s (x .reading) (x .word) (x .time) f ∙ ap (analogAfter a (x .reading) (x .word) (x .time)) (v .held);
         marked = λ c. m c ∙ ap₂ marksAfter (analog-turn c ∙ ap (λ (h : AnalogHeld). analogTurn a x h c) (v .held)) (v .marked c);
         stamped = r
             ∙ ap (λ (b : Bool). timeStampAfter b (x .time) (getD words at 0)) (analog-bit 4)

@@ -4,19 +4,19 @@ use mathlib.Core.Bool.{Bool, true, false, cond}
 use mathlib.Core.List.{List, [], _∷_, _++_, map}
 use lib.Dec.{ltb}
 use lib.ListN.{length, getD, drop}
-use Rattle.settings.specs.Alarm.{blank}
+use Rattle.settings.specs.Alarm.{blank, formAt}
 use Rattle.settings.specs.Refusals.{eventsTooLong}
 use Rattle.settings.specs.declared.types.Alarm.{Alarm}
 use Rattle.settings.specs.declared.types.Settings.{Settings}
 use Rattle.settings.specs.declared.reply.Reply.{Reply}
 use Rattle.settings.specs.declared.reply.Reply.the-variants.{Accepted, Refused as RefusedBy}
 use Rattle.condition.specs.Event.{Event, logBytes}
-use Rattle.scan_record.specs.Part.{timeOf, formAt, readingAt, wordAt, offsetOf}
+use Rattle.scan_record.specs.Part.{timeOf, readingAt, wordAt, offsetOf}
 use Rattle.scan_record.specs.Check.{checkRecord}
 use Rattle.alarm_history.specs.Scans.{Scan}
 use Rattle.alarm_history.specs.Events.{alarmLog}
-use Rattle.scan_parts.specs.declared.parts.Answer.{Answer}
-use Rattle.scan_parts.specs.declared.parts.Answer.the-variants.{Events, Refused}
+use Rattle.bank.specs.declared.answer.Answer.{Answer}
+use Rattle.bank.specs.declared.answer.Answer.the-variants.{Events, Refused}
 use Rattle.bank_history.specs.Calls.{Call}
 
 -- the alarm at a place, from 0, and the scans that the records are to it

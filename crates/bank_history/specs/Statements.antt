@@ -12,15 +12,15 @@ use Rattle.settings.specs.declared.types.Settings.{Settings}
 use Rattle.settings.specs.declared.reply.Reply.the-variants.{Accepted}
 use Rattle.history.specs.Words.{Demand3}
 use Rattle.reader.specs.Read.{readOf}
-use Rattle.image.specs.Internal.Write.{writtenOf, imageBuffer}
+use Rattle.image.specs.Internal.Write.{writeOf, writeBuffer}
 use Rattle.image.specs.declared.write.Written.the-variants.{Length, Refused}
 use Rattle.scan_record.specs.Check.{checkRecord}
 use Rattle.alarm_history.specs.Facts.{facts}
-use Rattle.bank.specs.Internal.Bank.{loadOf}
-use Rattle.bank.specs.Internal.Scan.{scanOf, eventBuffer}
-use Rattle.bank.specs.declared.bank.Bank.{Bank}
+use Rattle.bank.specs.Lent.{Words}
+use Rattle.bank.specs.Internal.Words.{answerOf, bufferOf}
+use Rattle.bank.specs.Internal.Load.{loadedWords}
 use Rattle.report.specs.Empty.{noStatus}
-use Rattle.report.specs.Internal.Report.{reportOf}
+use Rattle.report.specs.Internal.Report.{reportIn}
 use Rattle.bank_history.specs.Calls.{Call, after}
 use Rattle.bank_history.specs.Answers.{alarmAt, scansAt, lastAccepted, answerTo, bufferAfter, isAccepted, accepts, accepted}
 use Rattle.bank_history.specs.Report.{reportAfter}
@@ -33,9 +33,9 @@ abbrev pub settings : List ℕ → Settings
 settings image = readOf image .settings
 
 module _ (image : List ℕ) (calls : List Call) where
-  -- the bank after the calls
-  abbrev pub bank : Bank
-  bank = after (loadOf image .bank) calls
+  -- the words of the bank after the calls
+  abbrev pub words : Words
+  words = after (loadedWords image) calls
 
   -- the records accepted in the calls
   abbrev pub records : List (List ℕ)
@@ -44,18 +44,18 @@ module _ (image : List ℕ) (calls : List Call) where
   -- what one more call then gives
   pub record Replies : Type 0 where
     -- a scan: it is not refused exactly where none of 7 to 12 applies
-    pub accepting : (c : Call) → isAccepted (scanOf bank (c .bytes) (length (c .buffer)) .answer) ≡ accepts (settings image) records c
+    pub accepting : (c : Call) → isAccepted (answerOf words (c .bytes) (length (c .buffer))) ≡ accepts (settings image) records c
     -- its answer, and every byte of its event buffer
-    pub answer : (rec : List ℕ) (room : ℕ) → scanOf bank rec room .answer ≡ answerTo (settings image) records rec room
-    pub buffer : (rec out : List ℕ) → eventBuffer bank rec out ≡ bufferAfter (settings image) records rec out
+    pub answer : (rec : List ℕ) (room : ℕ) → answerOf words rec room ≡ answerTo (settings image) records rec room
+    pub buffer : (rec out : List ℕ) → bufferOf words rec out ≡ bufferAfter (settings image) records rec out
     -- with 3,840 bytes only 7 to 11 refuse
     pub suffices : (rec : List ℕ) (room : ℕ) → checkRecord (settings image .digital) (settings image .analog) (lastAccepted records) rec ≡ Accepted → 3840 ≤ room
-        → isAccepted (scanOf bank rec room .answer) ≡ true
+        → isAccepted (answerOf words rec room) ≡ true
     -- a report
-    pub report : (n : ℕ) → reportOf bank n ≡ reportAfter (settings image) records n
+    pub report : (n : ℕ) → reportIn words n ≡ reportAfter (settings image) records n
     -- the writer: the image that was read, or 13
-    pub write : (room : ℕ) → writtenOf (bank .settings) room ≡ cond (leb (length image) room) (Length (length image)) (Refused imageTooLong)
-    pub image-written : (out : List ℕ) → imageBuffer (bank .settings) out ≡ cond (leb (length image) (length out)) (image ++ drop (length image) out) out
+    pub write : (room : ℕ) → writeOf (words .settings) room ≡ cond (leb (length image) room) (Length (length image)) (Refused imageTooLong)
+    pub image-written : (out : List ℕ) → writeBuffer (words .settings) out ≡ cond (leb (length image) (length out)) (image ++ drop (length image) out) out
 
 -- every reply and every byte, for every list of calls
 abbrev pub EveryReply : Type 0
@@ -68,11 +68,11 @@ DemandThree =
     → 1 ≤ n → n ≤ settings image .digital + settings image .analog
     → i < length (conditionsOf (alarmAt (settings image) (n - 1) .kind))
     → let a = alarmAt (settings image) (n - 1) in
-    let said = getD (reportOf (bank image calls) n .conditions) i noStatus in
+    let said = getD (reportIn (words image calls) n .conditions) i noStatus in
     Demand3 (facts a) (said .alarm) (not (said .acked)) (said .count) (scansAt (settings image) (n - 1) (records image calls)) (getD (conditionsOf (a .kind)) i In)
 
 -- two receivers whose accepted records are the same report every alarm the same, whatever was refused and whatever buffers were lent
 abbrev pub TwoReceivers : Type 0
 TwoReceivers =
     (image : List ℕ) (calls calls′ : List Call) (n : ℕ) → Good image → records image calls ≡ records image calls′
-    → reportOf (bank image calls) n ≡ reportOf (bank image calls′) n
+    → reportIn (words image calls) n ≡ reportIn (words image calls′) n

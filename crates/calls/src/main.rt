@@ -9,7 +9,10 @@ mod spelling;
 mod words;
 
 use crate::run::run_line;
-use bank::bank::load;
+use bank::load::load;
+use layout::sizes::MARKS_WORDS;
+use layout::sizes::SETTINGS_WORDS;
+use layout::sizes::STATES_WORDS;
 use text::input::part;
 use text::output::add_byte;
 use text::output::flush;
@@ -21,14 +24,24 @@ use text::pieces::no_piece;
 fn main() {
     let mut block = io::large_buffer();
     let mut text = io::large_buffer();
-    let loaded = load(&[0, 0]);
-    let mut bank = loaded.bank;
+    let mut settings = [0u64; SETTINGS_WORDS];
+    let mut states = [0u64; STATES_WORDS];
+    let mut marks = [0u64; MARKS_WORDS];
+    load(&[0, 0], &mut settings, &mut states, &mut marks);
     let mut waiting = 0;
     let mut piece = next_piece(no_piece(), 0, &mut block, &text, &mut waiting);
     let mut turns = u64::MAX;
     while 0 < turns && goes_on(piece, waiting) {
         let line = part(&block, piece.from, piece.end);
-        bank = run_line(bank, line, piece.is_cut, &mut text, &mut waiting);
+        waiting = run_line(
+            &mut settings,
+            &mut states,
+            &mut marks,
+            line,
+            piece.is_cut,
+            &mut text,
+            waiting,
+        );
         waiting = add_byte(&mut text, waiting, b'\n');
         piece = next_piece(piece, 0, &mut block, &text, &mut waiting);
         turns -= 1;

@@ -1,4 +1,4 @@
-// Calls run on a bank. Each function adds the reply to what waits.
+// Calls run on a bank in its three blocks. Each function adds the reply to what waits and answers how much waits then.
 use crate::call::NONE;
 use crate::call::REPORT;
 use crate::call::SCAN;
@@ -13,27 +13,33 @@ use crate::reply::add_refused;
 use crate::reply::add_written;
 use crate::report_text::add_conditions;
 use crate::report_text::add_whole;
-use bank::bank::Bank;
-use bank::bank::load;
+use bank::answer::Answer;
+use bank::load::load;
 use bank::scan::scan;
 use image::write::Written;
 use image::write::write;
+use layout::sizes::MARKS_WORDS;
+use layout::sizes::SETTINGS_WORDS;
+use layout::sizes::STATES_WORDS;
 use report::report::report;
-use scan_parts::parts::Answer;
 use settings::reply::Reply;
-use settings::types::Settings;
 use text::input::part;
 use text::pieces::PIECE_SIZE;
+
+// Where a bank's settings say how many digital alarms it has, and how many analog ones.
+const DIGITAL: usize = 1;
+
+const ANALOG: usize = 2;
 
 // Bytes of an event record.
 const EVENT_SIZE: usize = 16;
 
 // How many alarms a bank has.
-fn alarms_in(digital: usize, analog: usize) -> u64 {
-    if usize::MAX - digital < analog {
+fn alarms_in(digital: u64, analog: u64) -> u64 {
+    if u64::MAX - digital < analog {
         return u64::MAX;
     }
-    (digital + analog) as u64
+    digital + analog
 }
 
 // How many bytes so many event records have, of so many that there are.
@@ -56,18 +62,24 @@ fn add_scanned(text: &mut [u8], waiting: usize, answer: Answer, lent: &[u8]) -> 
     }
 }
 
-// Writes settings to a lent buffer.
-fn run_write(settings: Settings, lent: &mut [u8], text: &mut [u8], waiting: usize) -> usize {
+// Writes a bank's settings to a lent buffer.
+fn run_write(settings: &[u64], lent: &mut [u8], text: &mut [u8], waiting: usize) -> usize {
     match write(settings, lent) {
         Written::Length(length) => add_written(text, waiting, length, lent, length),
         Written::Refused(refusal) => add_refused(text, waiting, refusal, lent),
     }
 }
 
-fn run_report(bank: Bank, alarm: usize, text: &mut [u8], waiting: usize) -> usize {
-    let settings = bank.settings;
-    let is_digital = alarm <= settings.digital;
-    let found = report(bank, alarm);
+fn run_report(
+    settings: &[u64; SETTINGS_WORDS],
+    states: &[u64; STATES_WORDS],
+    marks: &[u64; MARKS_WORDS],
+    alarm: usize,
+    text: &mut [u8],
+    waiting: usize,
+) -> usize {
+    let is_digital = alarm <= settings[DIGITAL] as usize;
+    let found = report(settings, states, marks, alarm);
     let reply = found.reply;
     let whole = found.alarm;
     let conditions = found.conditions;
@@ -80,79 +92,82 @@ fn run_report(bank: Bank, alarm: usize, text: &mut [u8], waiting: usize) -> usiz
     }
 }
 
-// A new bank.
-fn run_settings(image: &[u8], text: &mut [u8], waiting: &mut usize) -> Bank {
-    let loaded = load(image);
-    let bank = loaded.bank;
-    let reply = loaded.reply;
-    let settings = bank.settings;
-    let alarms = alarms_in(settings.digital, settings.analog);
-    *waiting = add_loaded(text, *waiting, reply, alarms);
-    bank
+// Makes a new bank.
+fn run_settings(
+    settings: &mut [u64; SETTINGS_WORDS],
+    states: &mut [u64; STATES_WORDS],
+    marks: &mut [u64; MARKS_WORDS],
+    image: &[u8],
+    text: &mut [u8],
+    waiting: usize,
+) -> usize {
+    let reply = load(image, settings, states, marks);
+    let alarms = alarms_in(settings[DIGITAL], settings[ANALOG]);
+    add_loaded(text, waiting, reply, alarms)
 }
 
-// The bank after a scan with a lent buffer.
+// Runs a scan with a lent buffer.
 fn run_scan(
-    bank: Bank,
+    settings: &[u64],
+    states: &mut [u64; STATES_WORDS],
+    marks: &mut [u64; MARKS_WORDS],
     record: &[u8],
     lent: &mut [u8],
     text: &mut [u8],
-    waiting: &mut usize,
-) -> Bank {
-    let scanned = scan(bank, record, lent);
-    let next = scanned.bank;
-    let answer = scanned.answer;
-    *waiting = add_scanned(text, *waiting, answer, lent);
-    next
+    waiting: usize,
+) -> usize {
+    let answer = scan(settings, states, marks, record, lent);
+    add_scanned(text, waiting, answer, lent)
 }
 
-// The bank after a call. `bytes` has what it hands on, `lent` is what it is lent.
+// Runs a call. `bytes` has what it hands on, `lent` is what it is lent.
 fn run_call(
-    bank: Bank,
+    settings: &mut [u64; SETTINGS_WORDS],
+    states: &mut [u64; STATES_WORDS],
+    marks: &mut [u64; MARKS_WORDS],
     name: usize,
     number: usize,
     bytes: &[u8],
     lent: &mut [u8],
     text: &mut [u8],
-    waiting: &mut usize,
-) -> Bank {
+    waiting: usize,
+) -> usize {
     match name {
-        SETTINGS => return run_settings(bytes, text, waiting),
-        SCAN => return run_scan(bank, bytes, lent, text, waiting),
-        REPORT => {
-            *waiting = run_report(bank, number, text, *waiting);
-        }
-        WRITE => {
-            *waiting = run_write(bank.settings, lent, text, *waiting);
-        }
-        _ => {}
+        SETTINGS => run_settings(settings, states, marks, bytes, text, waiting),
+        SCAN => run_scan(settings, states, marks, bytes, lent, text, waiting),
+        REPORT => run_report(settings, states, marks, number, text, waiting),
+        WRITE => run_write(settings, lent, text, waiting),
+        _ => waiting,
     }
-    bank
 }
 
-// The bank after a line, which is answered.
+// Runs and answers a line.
 pub fn run_line(
-    bank: Bank,
+    settings: &mut [u64; SETTINGS_WORDS],
+    states: &mut [u64; STATES_WORDS],
+    marks: &mut [u64; MARKS_WORDS],
     line: &[u8],
     is_cut: bool,
     text: &mut [u8],
-    waiting: &mut usize,
-) -> Bank {
+    waiting: usize,
+) -> usize {
     let mut bytes = [0u8; PIECE_SIZE / 2];
     let mut space = io::large_buffer();
     let call = call_of(line, is_cut, &mut bytes);
     if call.name == NONE {
-        *waiting = add_no_call(text, *waiting, line, call.bad, call.fault);
-        return bank;
+        return add_no_call(text, waiting, line, call.bad, call.fault);
     }
     let size = lent_size(call.room);
     let lent = &mut space[0..size];
     fill(lent);
+    let given = part(&bytes, 0, call.size);
     run_call(
-        bank,
+        settings,
+        states,
+        marks,
         call.name,
         call.number,
-        part(&bytes, 0, call.size),
+        given,
         lent,
         text,
         waiting,

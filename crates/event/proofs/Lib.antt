@@ -1,1 +1,4 @@
+pub mod Groups
+pub mod Logs
+pub mod Slots
 pub mod Stores

@@ -1,86 +1,114 @@
 -- Laws of the stores that an event record takes. Assumes nothing.
 use mathlib.Core.Path.{_≡_, refl, sym, ap, _∙_}
-use mathlib.Core.List.{List, [], _∷_, _++_, append-nil}
-use Prim.Native.Nat.{ℕ, suc, _+_, _-_, _/_, _%_, _≤_, _<_}
-use native.Mathlib.Numerals.{add-one}
-use native.Mathlib.Omega.{arith}
-use lib.Dec.{eqb}
-use lib.ListN.{length, set, length-append}
-use lib.Seq.{sets}
+use mathlib.Core.List.{List, [], _∷_, _++_, append-nil, append-assoc}
 use mathlib.Core.Bool.{Bool, true, false, cond}
+use Prim.Native.Nat.{ℕ, zero, suc, _+_, _*_, _/_, _%_, _^_, _<_}
+use native.Mathlib.Nat.{pow-succ', mul-assoc}
+use native.Mathlib.Omega.{arith}
 use borrow.Author.Tests.{eq-eqb, ne-eqb}
-use Rattle.settings.specs.declared.types.Kind.{Kind}
+use lib.ListN.{length, length-append}
+use lib.Seq.{sets}
 use Rattle.wire.specs.Number.{bytes}
-use Rattle.wire.proofs.Laws.{length-bytes, sets-append}
-use Rattle.condition.specs.Event.{Event, eventBytes, logBytes}
-use Rattle.alarm.specs.Internal.Events.{eventAt}
-use Rattle.event.specs.Internal.Bits.{eventsOf}
-
--- two bytes, two zeros, and the rest
-pub tail-stores : (l : List ℕ) (at : ℕ) (xs ys : List ℕ) → length xs ≡ 2
-    → sets (set (set (sets l at xs) (at + 2) 0) (at + 3) 0) (at + 4) ys ≡ sets l at (xs ++ (0 ∷ 0 ∷ ys))
-tail-stores l at xs ys h =
-    let p : at + 3 ≡ suc (at + 2) = omega arith in
-    let q : at + 4 ≡ suc (suc (at + 2)) = omega arith in
-    rw (p, q) (ap (λ (k : ℕ). sets (sets l at xs) (at + k) (0 ∷ 0 ∷ ys)) (sym h)) ∙ sets-append l at xs (0 ∷ 0 ∷ ys)
+use Rattle.wire.proofs.Laws.{length-bytes, sets-append, bytes-add}
+use Rattle.condition.specs.Event.{Event, eventBytes}
+use Rattle.event.specs.Internal.Bits.{headOf, recordOf, recordsOf}
 
 pub length-event : (e : Event) → length (eventBytes e) ≡ 16
 unfolding eventBytes
 length-event e =
     omega (arith, length-append (bytes 2 (e .severity)) (0 ∷ 0 ∷ bytes 8 (e .time)), length-bytes 2 (e .severity), length-bytes 8 (e .time))
 
--- the log of a single event
-pub log-one : (e : Event) → logBytes (e ∷ []) ≡ eventBytes e
-unfolding logBytes
-log-one e = append-nil (eventBytes e)
+-- ---- a record as two numbers
 
-module _ (alarm : ℕ) (kind : Kind) (suppressed : Bool) (time k word : ℕ) where
-  -- a bit that is set writes its event, and one that is clear nothing
-  pub bit-set : word % 2 ≡ 1 → logBytes (eventsOf alarm kind suppressed time 1 k word) ≡ eventBytes (eventAt alarm kind suppressed time k)
-  unfolding eventsOf
-  bit-set h = rw (eq-eqb (word % 2) 1 h) (log-one (eventAt alarm kind suppressed time k))
+-- a byte in front of a number's bytes
+byte-first : (n b q : ℕ) → b < 256 → bytes (suc n) (b + 256 * q) ≡ b ∷ bytes n q
+unfolding bytes
+byte-first n b q h =
+    let m : (b + 256 * q) % 256 ≡ b = omega arith in
+    let d : (b + 256 * q) / 256 ≡ q = omega arith in
+    rw (m, d)
 
-  pub bit-clear : (word % 2 ≡ 1 → ⊥) → logBytes (eventsOf alarm kind suppressed time 1 k word) ≡ []
-  unfolding eventsOf logBytes
-  bit-clear h = rw (ne-eqb (word % 2) 1 h)
+one-small : (b : Bool) → cond b 1 0 < 256
+one-small true = omega arith
+one-small false = omega arith
 
--- four bytes in front, and the rest
-pub event-stores : (l : List ℕ) (at : ℕ) (e : Event)
-    → sets (sets l at (e .alarm ∷ e .condition ∷ e .kind ∷ cond (e .suppressed) 1 0 ∷ [])) (at + 4) (bytes 2 (e .severity) ++ (0 ∷ 0 ∷ bytes 8 (e .time)))
-    ≡ sets l at (eventBytes e)
+-- a number of two bytes in four
+four-bytes : (v : ℕ) → v < 65536 → bytes 4 v ≡ bytes 2 v ++ (0 ∷ 0 ∷ [])
+unfolding bytes
+four-bytes v h = let z : v / 65536 ≡ 0 = omega arith in bytes-add 2 2 v ∙ rw z
+
+module _ (alarm condition kind : ℕ) (suppressed : Bool) (severity : ℕ) where
+  head-bytes : alarm < 256 → condition < 256 → kind < 256 → severity < 65536
+      → bytes 8 (headOf alarm condition kind suppressed severity) ≡ alarm ∷ condition ∷ kind ∷ cond suppressed 1 0 ∷ (bytes 2 severity ++ (0 ∷ 0 ∷ []))
+  head-bytes a c k s =
+      let b : ℕ = cond suppressed 1 0 in
+      let e : headOf alarm condition kind suppressed severity ≡ alarm + 256 * (condition + 256 * (kind + 256 * (b + 256 * severity))) = omega arith in
+      rw (e, byte-first 7 alarm (condition + 256 * (kind + 256 * (b + 256 * severity))) a, byte-first 6 condition (kind + 256 * (b + 256 * severity)) c, byte-first 5 kind (b + 256 * severity) k, byte-first 4 b severity (one-small suppressed), four-bytes severity s)
+
+-- the first eight bytes of an event as one number, and the time
+pub event-bytes : (e : Event) → e .alarm < 256 → e .condition < 256 → e .kind < 256 → e .severity < 65536
+    → eventBytes e ≡ bytes 8 (headOf (e .alarm) (e .condition) (e .kind) (e .suppressed) (e .severity)) ++ bytes 8 (e .time)
 unfolding eventBytes
-event-stores l at e =
-    sets-append l at (e .alarm ∷ e .condition ∷ e .kind ∷ cond (e .suppressed) 1 0 ∷ []) (bytes 2 (e .severity) ++ (0 ∷ 0 ∷ bytes 8 (e .time)))
+event-bytes e a c k s = rw (head-bytes (e .alarm) (e .condition) (e .kind) (e .suppressed) (e .severity) a c k s, append-assoc)
 
--- ---- the bits one after the other
+-- ---- a record for each bit
 
-module _ (alarm : ℕ) (kind : Kind) (suppressed : Bool) (time : ℕ) where
-  -- the log of the bits from k on, of 24
-  abbrev pub logFrom : ℕ → ℕ → List ℕ
-  logFrom k word = logBytes (eventsOf alarm kind suppressed time (24 - k) k word)
+module _ (time : ℕ) where
+  pub bit-set : (head word : ℕ) → word % 2 ≡ 1 → recordOf time head word ≡ bytes 8 head ++ bytes 8 time
+  bit-set head word h = rw (eq-eqb (word % 2) 1 h)
 
-  abbrev pub logAt : ℕ → ℕ → List ℕ
-  logAt k word = logBytes (eventsOf alarm kind suppressed time 1 k word)
+  pub bit-clear : (head word : ℕ) → (word % 2 ≡ 1 → ⊥) → recordOf time head word ≡ []
+  bit-clear head word h = rw (ne-eqb (word % 2) 1 h)
 
-  split : (b : Bool) (e : Event) (es : List Event) → logBytes (cond b (e ∷ es) es) ≡ logBytes (cond b (e ∷ []) []) ++ logBytes es
-  unfolding logBytes
-  split true e es = rw append-nil
-  split false e es = refl
+  pub length-record : (head : ℕ) → length (bytes 8 head ++ bytes 8 time) ≡ 16
+  length-record head = omega (arith, length-append (bytes 8 head) (bytes 8 time), length-bytes 8 head, length-bytes 8 time)
 
-  pub log-next : (k word : ℕ) → k < 24 → logFrom k word ≡ logAt k word ++ logFrom (k + 1) (word / 2)
-  unfolding eventsOf
-  log-next k word h =
-      let n : 24 - k ≡ suc (24 - (k + 1)) = omega arith in
-      rw n (split (eqb (word % 2) 1) (eventAt alarm kind suppressed time k) (eventsOf alarm kind suppressed time (24 - (k + 1)) (suc k) (word / 2)))
-      ∙ ap (λ (j : ℕ). logAt k word ++ logBytes (eventsOf alarm kind suppressed time (24 - (k + 1)) j (word / 2))) (sym (add-one k))
+  -- the head is stored, and then the time
+  pub record-stores : (out : List ℕ) (at head : ℕ) {l m : List ℕ} → l ≡ sets out at (bytes 8 head) → m ≡ sets l (at + 8) (bytes 8 time)
+      → m ≡ sets out at (bytes 8 head ++ bytes 8 time)
+  record-stores out at head e f =
+      f ∙ rw e (ap (λ (k : ℕ). sets (sets out at (bytes 8 head)) (at + k) (bytes 8 time)) (sym (length-bytes 8 head)) ∙ sets-append out at (bytes 8 head) (bytes 8 time))
 
-  pub length-next : (k word : ℕ) → k < 24 → length (logFrom k word) ≡ length (logAt k word) + length (logFrom (k + 1) (word / 2))
-  length-next k word h = ap length (log-next k word h) ∙ length-append (logAt k word) (logFrom (k + 1) (word / 2))
+  -- three bits
+  pub three-length : (head word : ℕ)
+      → length (recordsOf time 3 head word)
+      ≡ length (recordOf time head word) + length (recordOf time (head + 65536) (word / 2)) + length (recordOf time (head + 65536 + 65536) (word / 2 / 2))
+  unfolding recordsOf
+  three-length head word = simp (length-append, append-nil) (omega arith)
 
-  pub sets-next : (out : List ℕ) (at k word : ℕ) → k < 24
-      → sets (sets out at (logAt k word)) (at + length (logAt k word)) (logFrom (k + 1) (word / 2)) ≡ sets out at (logFrom k word)
-  sets-next out at k word h = sets-append out at (logAt k word) (logFrom (k + 1) (word / 2)) ∙ ap (sets out at) (sym (log-next k word h))
+  pub three-stores : (out : List ℕ) (at head word : ℕ) {second third : ℕ} {l m r : List ℕ}
+      → second ≡ at + length (recordOf time head word) → l ≡ sets out at (recordOf time head word)
+      → third ≡ second + length (recordOf time (head + 65536) (word / 2)) → m ≡ sets l second (recordOf time (head + 65536) (word / 2))
+      → r ≡ sets m third (recordOf time (head + 65536 + 65536) (word / 2 / 2)) → r ≡ sets out at (recordsOf time 3 head word)
+  unfolding recordsOf
+  three-stores out at head word a b c d e =
+      let x = recordOf time head word in
+      let y = recordOf time (head + 65536) (word / 2) in
+      let z = recordOf time (head + 65536 + 65536) (word / 2 / 2) in
+      e ∙ rw (c, d, a, b, append-nil z) (sets-append (sets out at x) (at + length x) y z ∙ sets-append out at x (y ++ z))
 
-  pub log-none : (k word : ℕ) → 24 ≤ k → logFrom k word ≡ []
-  unfolding eventsOf logBytes
-  log-none k word h = let n : 24 - k ≡ 0 = omega arith in rw n
+  -- six bits are three and three
+  six-records : (head word : ℕ) → recordsOf time 6 head word ≡ recordsOf time 3 head word ++ recordsOf time 3 (head + 196608) (word / 8)
+  unfolding recordsOf
+  six-records head word =
+      let p : head + 65536 + 65536 + 65536 ≡ head + 196608 = omega arith in
+      let q : word / 2 / 2 / 2 ≡ word / 8 = omega arith in
+      simp (p, q, append-assoc)
+
+  pub six-length : (head word : ℕ) → length (recordsOf time 6 head word) ≡ length (recordsOf time 3 head word) + length (recordsOf time 3 (head + 196608) (word / 8))
+  six-length head word = ap length (six-records head word) ∙ length-append (recordsOf time 3 head word) (recordsOf time 3 (head + 196608) (word / 8))
+
+  pub six-stores : (out : List ℕ) (at head word : ℕ) {middle : ℕ} {l m : List ℕ}
+      → middle ≡ at + length (recordsOf time 3 head word) → l ≡ sets out at (recordsOf time 3 head word)
+      → m ≡ sets l middle (recordsOf time 3 (head + 196608) (word / 8)) → m ≡ sets out at (recordsOf time 6 head word)
+  six-stores out at head word a b c =
+      c ∙ rw (a, b, six-records head word) (sets-append out at (recordsOf time 3 head word) (recordsOf time 3 (head + 196608) (word / 8)))
+
+  -- no bits, no records
+  pub no-records : (n head word q : ℕ) → word ≡ 2 ^ n * q → recordsOf time n head word ≡ []
+  unfolding recordsOf
+  no-records zero head word q e = refl
+  no-records (suc n) head word q e =
+      let p : word ≡ 2 * (2 ^ n * q) = e ∙ rw (pow-succ', mul-assoc) in
+      let z : word % 2 ≡ 0 = omega arith in
+      rw z (no-records n (head + 65536) (word / 2) q (omega arith))

@@ -1,73 +1,50 @@
-// What a bit of the event word stands for.
+// What an event says of the condition at a place, from the words of the alarm's settings.
 ghost use mathlib.Core.Path.{_≡_};
-ghost use Prim.Native.Nat.{_-_, _<_, _≤_};
-ghost use mathlib.Core.List.{[], _∷_};
-ghost use lib.ListN.{getD};
-ghost use Rattle.alarm.specs.Internal.Events.{kindAt, conditionAt, actingAt};
-use condition::severity::acting_severity;
-use settings::types::Kind;
-use settings::types::Severities;
+ghost use Prim.Native.Nat.{_+_, _<_, _≤_};
+ghost use lib.ListN.{length};
+ghost use Rattle.settings.specs.declared.types.Form.{Form};
+ghost use Rattle.layout.specs.Internal.Words.{kindIn};
+ghost use Rattle.step.specs.Internal.Events.{storedSeverity};
+ghost use Rattle.event.specs.Internal.Bits.{conditionOf};
+use layout::half::lower;
+use layout::half::upper;
+use layout::read::severity_in;
+use settings::types::Form;
 
-// The event kind.
-pub fn kind_at(k: u32) -> u8
-    requires { ⌜ k < 24 ⌝ }
-    ensures { λ r. ⌜ r ≡ kindAt k ⌝ }
-{
-    if k < 6 {
-        (k + 1) as u8
-    } else {
-        (6 + (k - 6) % 3) as u8
-    }
-}
+// Where the severities begin among an alarm's words, two a word.
+pub const SEVERITIES: usize = 5;
 
-// The condition: 7 for the whole alarm.
-pub fn condition_at(kind: Kind, k: u32) -> u8
-    requires { ⌜ k < 24 ⌝ }
-    ensures { λ r. ⌜ (r ≡ conditionAt kind k) × (r < 8) ⌝ }
-{
-    if k < 6 {
-        return 7;
-    }
-    match kind {
-        Kind::Digital { severity: _ } => 0,
-        Kind::Analog {
-            limits: _,
-            severities: _,
-            period: _,
-        } => (1 + (k - 6) / 3) as u8,
-    }
-}
-
-// The severity at a place among an analog alarm's six.
-fn severity_of(s: Severities, place: usize) -> u32
+// The number of the condition: 0 of a digital alarm, from 1 on of an analog one.
+pub fn condition_at(form: Form, place: usize) -> u8
     requires { ⌜ place < 6 ⌝ }
-    ensures { λ r. ⌜ r ≡ getD (s .hh ∷ s .h ∷ s .l ∷ s .ll ∷ s .rocpos ∷ s .rocneg ∷ []) place 0 ⌝ }
+    ensures { λ r. ⌜ r ≡ conditionOf form place ⌝ }
 {
-    let all = [s.hh, s.h, s.l, s.ll, s.rocpos, s.rocneg];
-    all[place]
-}
-
-// The severity that an event of a condition carries: 0 for the whole alarm.
-pub fn severity_at(kind: Kind, condition: u8) -> u16
-    requires { ⌜ condition < 8 ⌝ }
-    ensures { λ r. ⌜ r ≡ actingAt kind condition ⌝ }
-{
-    if 7 <= condition {
-        return 0;
-    }
-    match kind {
-        Kind::Digital { severity } => acting_severity(severity),
-        Kind::Analog {
-            limits: _,
-            severities,
-            period: _,
-        } => { acting_severity(severity_of(severities, before(condition) as usize)) }
+    match form {
+        Form::Digital => 0,
+        Form::Analog => (1 + place) as u8,
     }
 }
 
-// One less, or 0.
-fn before(n: u8) -> u8
-    ensures { λ r. ⌜ (r ≡ n - 1) × (r ≤ n) ⌝ }
+// One of the six severities of an analog alarm.
+fn severity_of(settings: &[u64], at: usize, place: usize) -> u32
+    requires { ⌜ (at + 8 ≤ length (now settings)) × (place < 6) ⌝ }
+    ensures { λ r. ⌜ r ≡ storedSeverity (kindIn Form.Analog (now (settings .entry)) at) (1 + place) ⌝ }
 {
-    if n == 0 { 0 } else { n - 1 }
+    let pair = settings[at + SEVERITIES + place / 2];
+    if place % 2 == 0 {
+        lower(pair)
+    } else {
+        upper(pair)
+    }
+}
+
+// The severity that is stored for a condition.
+pub fn severity_at(settings: &[u64], at: usize, form: Form, place: usize) -> u32
+    requires { ⌜ (at + 8 ≤ length (now settings)) × (place < 6) ⌝ }
+    ensures { λ r. ⌜ r ≡ storedSeverity (kindIn form (now (settings .entry)) at) (conditionOf form place) ⌝ }
+{
+    match form {
+        Form::Digital => severity_in(settings, at),
+        Form::Analog => severity_of(settings, at, place),
+    }
 }

@@ -6,11 +6,9 @@ use lib.ListN.{getD}
 use lib.Ieee.{binary32, toBits}
 use Rattle.wire.specs.Number.{bytes}
 use Rattle.report.specs.Empty.{noStatus}
-use Rattle.report.specs.Internal.Report.{reportOf}
 use Rattle.report.specs.declared.whole.Whole.{Whole}
 use Rattle.report.specs.declared.status.Status.{Status}
 use Rattle.report.specs.declared.report.AlarmReport.{AlarmReport}
-use Rattle.bank.specs.declared.bank.Bank.{Bank}
 use Rattle.host_bytes.specs.declared.rows.Row.{Row}
 
 abbrev pub flag : Bool → ℕ
@@ -66,11 +64,3 @@ statusesBytes cs = joined (λ i. conditionBytes cs i) 6
 -- 224 bytes
 unfoldable pub reportBytes : AlarmReport → List ℕ
 reportBytes r = rowBytes (wholeRow (r .alarm) (r .resettime)) ++ statusesBytes (r .conditions)
-
--- the alarm at a place; alarms are numbered from 1
-abbrev pub alarmBytes : Bank → ℕ → List ℕ
-alarmBytes b place = reportBytes (reportOf b (place + 1))
-
--- of alarms 1 to n
-abbrev pub reportsBytes : Bank → ℕ → List ℕ
-reportsBytes b n = joined (λ p. alarmBytes b p) n

@@ -1,13 +1,11 @@
 // The report of an alarm as 224 bytes: seven rows of 32, one for the whole alarm and one for each of six conditions.
 ghost use mathlib.Core.Path.{_≡_};
 ghost use mathlib.Core.List.{[], _∷_};
-ghost use Prim.Native.Nat.{_+_, _*_, _≤_};
+ghost use Prim.Native.Nat.{_+_, _≤_};
 ghost use lib.ListN.{length};
 ghost use lib.Seq.{sets};
-ghost use Rattle.host_bytes.specs.Bytes.{flag, rowBytes, wholeRow, statusRow, statusesBytes, reportBytes, reportsBytes};
-use bank::bank::Bank;
+ghost use Rattle.host_bytes.specs.Bytes.{flag, rowBytes, wholeRow, statusRow, statusesBytes, reportBytes};
 use report::report::AlarmReport;
-use report::report::report;
 use report::status::Status;
 use report::whole::Whole;
 use wire::number::put_u8;
@@ -97,7 +95,8 @@ fn put_statuses(out: &mut [u8], start: usize, conditions: [Status; 6])
     }
 }
 
-fn put_report(out: &mut [u8], at: usize, said: AlarmReport)
+// Writes the 224 bytes of a report.
+pub fn put_report(out: &mut [u8], at: usize, said: AlarmReport)
     requires { ⌜ at + 224 ≤ length (now out) ⌝ }
     ensures { λ _. ⌜ now (out .exit) ≡ sets (now (out .entry)) at (reportBytes said) ⌝ }
 {
@@ -105,16 +104,4 @@ fn put_report(out: &mut [u8], at: usize, said: AlarmReport)
     let conditions = said.conditions;
     put_row(out, at, whole_row(alarm, said.resettime));
     put_statuses(out, at + 32, conditions);
-}
-
-// Fills the front with the reports of the first `count` alarms.
-pub fn put_reports(out: &mut [u8], bank: Bank, count: usize)
-    requires { ⌜ (count ≤ 24) × (224 * count ≤ length (now out)) ⌝ }
-    ensures { λ _. ⌜ now (out .exit) ≡ sets (now (out .entry)) 0 (reportsBytes bank count) ⌝ }
-{
-    let mut place = 0;
-    while place < count {
-        put_report(out, 224 * place, report(bank, place + 1));
-        place += 1;
-    }
 }

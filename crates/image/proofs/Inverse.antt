@@ -1,5 +1,5 @@
 -- What a record that was read says: its facts, and that its bytes are those that it was read from. Assumes nothing.
-use mathlib.Core.Path.{_≡_, refl, sym, ap, subst, _∙_}
+use mathlib.Core.Path.{_≡_, sym, ap, subst, _∙_}
 use mathlib.Core.List.{List, [], _∷_, _++_}
 use mathlib.Core.Bool.{Bool, true, false, not, _&&_, _||_, cond, false≢true}
 use Prim.Native.Nat.{ℕ, suc, _+_, _*_, _≤_}
@@ -19,6 +19,7 @@ use Rattle.wire.proofs.Reals.{pattern-back}
 use Rattle.settings.specs.Refusals.{refusal}
 use Rattle.settings.specs.Alarm.{onHH, onH, onL, onLL}
 use Rattle.settings.specs.Rules.{nonNegative, limitsInRange, durationInRange, inRange, ordered, rising, lowOf, highOf, banded, apart}
+use Rattle.settings_record.proofs.Laws.{read-true}
 use Rattle.settings_record.specs.Record.{digitalAlarm, digitalRecord, severitiesAt, limitsAt, analogAlarm, analogRecord, sizeOf, recordAt}
 use Rattle.image.specs.Internal.Write.{severityWords, limitWords, digitalBytes, analogBytes, kindBytes, recordBytes}
 use Rattle.settings.specs.Internal.Sound.{Bounded, Rising, Banded, Sound}
@@ -26,9 +27,7 @@ use Rattle.settings.specs.declared.types.Limits.{Limits}
 use Rattle.settings.specs.declared.types.Alarm.{Alarm}
 use Rattle.settings.specs.declared.types.Form.{Form}
 use Rattle.settings.specs.declared.types.Form.the-variants.{Digital as DigitalForm, Analog as AnalogForm}
-use Rattle.settings_record.specs.declared.record.Record.{Record}
 use Rattle.settings_record.specs.declared.record.Record.the-variants.{Alarm as Recorded, Refused as NoRecord}
-use Rattle.settings.specs.declared.reply.Refusal.{Refusal}
 
 -- ---- tests taken apart
 
@@ -38,11 +37,6 @@ or-true false b e f = absurd (false≢true f)
 
 both-true : (a b c : Bool) → not (a && b) || c ≡ true → a ≡ true → b ≡ true → c ≡ true
 both-true a b c e f g = or-true (a && b) c e (rw (f, g))
-
--- a choice that ended in a record took the side that holds it
-read-true : (b : Bool) (x : Record) (r : Refusal) {a : Alarm} {next : ℕ} → cond b x (NoRecord r) ≡ Recorded a next → (b ≡ true) × (x ≡ Recorded a next)
-read-true true x r e = (refl, e)
-read-true false x r e = let z : _≡_ {A = ℕ} 0 1 = cc in absurd (omega arith)
 
 -- ---- the facts of a record
 

@@ -1,3 +1,4 @@
 pub mod Images
+pub mod Blocks
 pub mod Inverse
 pub mod RoundTrip

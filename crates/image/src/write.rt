@@ -4,14 +4,19 @@ ghost use Prim.Native.Nat.{_+_, _≤_, _<_};
 ghost use lib.ListN.{length};
 ghost use lib.Seq.{sets, slice};
 ghost use Rattle.wire.specs.Internal.Words.{words};
-ghost use Rattle.image.specs.Internal.Write.{severityWords, limitWords, digitalBytes, analogBytes, recordBytes, recordsBytes, sectionBytes, hasRoom, writtenOf, imageBuffer};
+ghost use Rattle.image.specs.Internal.Write.{severityWords, limitWords, digitalBytes, analogBytes, recordBytes, recordsBytes, sectionBytes, readAs, hasRoom, writtenOf, imageBuffer, writeOf, writeBuffer};
+ghost use Rattle.layout.specs.Internal.Block.{settingsIn};
+use layout::block::is_block;
+use layout::read::alarm_in;
+use layout::sizes::ALARM_WORDS;
+use layout::sizes::SETTINGS_HEAD;
 use settings::refusals::IMAGE_TOO_LONG;
+use settings::refusals::NO_BANK;
 use settings::reply::Refusal;
 use settings::types::Alarm;
 use settings::types::Form;
 use settings::types::Kind;
 use settings::types::Limits;
-use settings::types::Settings;
 use settings::types::Severities;
 use wire::number::put_u8;
 use wire::number::put_u32;
@@ -118,17 +123,18 @@ fn put_records(
     form: Form,
     first: usize,
     end: usize,
-    alarms: [Alarm; 24],
+    words: &[u64],
 ) -> usize
-    requires { ⌜ end ≤ 24 ⌝ }
-    requires { ⌜ start + length (recordsBytes form (slice first end alarms)) ≤ length (now out) ⌝ }
-    ensures { λ r. ⌜ r ≡ start + length (recordsBytes form (slice first end alarms)) ⌝ }
-    ensures { λ _. ⌜ now (out .exit) ≡ sets (now (out .entry)) start (recordsBytes form (slice first end alarms)) ⌝ }
+    requires { ⌜ (end ≤ 24) × (length (now words) ≡ 292) ⌝ }
+    requires { ⌜ start + length (recordsBytes form (slice first end (readAs form (now words)))) ≤ length (now out) ⌝ }
+    ensures { λ r. ⌜ r ≡ start + length (recordsBytes form (slice first end (readAs form (now (words .entry))))) ⌝ }
+    ensures { λ _. ⌜ now (out .exit) ≡ sets (now (out .entry)) start (recordsBytes form (slice first end (readAs form (now (words .entry))))) ⌝ }
 {
     let mut place = first;
     let mut at = start;
     while place < end {
-        at = put_record(out, at, form, alarms[place]);
+        let alarm = alarm_in(words, SETTINGS_HEAD + ALARM_WORDS * place, form);
+        at = put_record(out, at, form, alarm);
         place += 1;
     }
     at
@@ -140,15 +146,15 @@ fn put_section(
     form: Form,
     first: usize,
     count: usize,
-    alarms: [Alarm; 24],
+    words: &[u64],
 ) -> usize
-    requires { ⌜ (first ≤ 12) × (count ≤ 12) ⌝ }
-    requires { ⌜ at + length (sectionBytes form first count alarms) ≤ length (now out) ⌝ }
-    ensures { λ r. ⌜ r ≡ at + length (sectionBytes form first count alarms) ⌝ }
-    ensures { λ _. ⌜ now (out .exit) ≡ sets (now (out .entry)) at (sectionBytes form first count alarms) ⌝ }
+    requires { ⌜ (first ≤ 12) × (count ≤ 12) × (length (now words) ≡ 292) ⌝ }
+    requires { ⌜ at + length (sectionBytes form first count (readAs form (now words))) ≤ length (now out) ⌝ }
+    ensures { λ r. ⌜ r ≡ at + length (sectionBytes form first count (readAs form (now (words .entry)))) ⌝ }
+    ensures { λ _. ⌜ now (out .exit) ≡ sets (now (out .entry)) at (sectionBytes form first count (readAs form (now (words .entry)))) ⌝ }
 {
     put_u8(out, at, count as u8);
-    put_records(out, at + 1, form, first, first + count, alarms)
+    put_records(out, at + 1, form, first, first + count, words)
 }
 
 // Whether settings with so many alarms have an image of at most `len` bytes.
@@ -164,21 +170,35 @@ fn has_room(digital: usize, analog: usize, len: usize) -> bool
     2 + 9 * digital + 61 * analog <= len
 }
 
-// Fills the front of `out` with the image of settings and leaves the rest, or refuses and leaves every byte.
-pub fn write(settings: Settings, out: &mut [u8]) -> Written
-    ensures { λ r. ⌜ r ≡ writtenOf settings (length (now (out .entry))) ⌝ }
-    ensures { λ _. ⌜ now (out .exit) ≡ imageBuffer settings (now (out .entry)) ⌝ }
+// Writes the image of the settings in a block.
+fn write_block(words: &[u64], out: &mut [u8]) -> Written
+    requires { ⌜ length (now words) ≡ 292 ⌝ }
+    ensures { λ r. ⌜ r ≡ writtenOf (settingsIn (now (words .entry))) (length (now (out .entry))) ⌝ }
+    ensures { λ _. ⌜ now (out .exit) ≡ imageBuffer (settingsIn (now (words .entry))) (now (out .entry)) ⌝ }
 {
-    let digital = settings.digital;
-    let analog = settings.analog;
-    let alarms = settings.alarms;
+    let digital = words[1] as usize;
+    let analog = words[2] as usize;
     if !has_room(digital, analog, out.len()) {
         return Written::Refused(Refusal {
             number: IMAGE_TOO_LONG,
             place: 0,
         });
     }
-    let next = put_section(out, 0, Form::Digital, 0, digital, alarms);
-    let length = put_section(out, next, Form::Analog, digital, analog, alarms);
+    let next = put_section(out, 0, Form::Digital, 0, digital, words);
+    let length = put_section(out, next, Form::Analog, digital, analog, words);
     Written::Length(length)
+}
+
+// Fills the front of `out` with the image of a bank's settings and leaves the rest, or refuses and leaves every byte.
+pub fn write(words: &[u64], out: &mut [u8]) -> Written
+    ensures { λ r. ⌜ r ≡ writeOf (now (words .entry)) (length (now (out .entry))) ⌝ }
+    ensures { λ _. ⌜ now (out .exit) ≡ writeBuffer (now (words .entry)) (now (out .entry)) ⌝ }
+{
+    if !is_block(words) {
+        return Written::Refused(Refusal {
+            number: NO_BANK,
+            place: 0,
+        });
+    }
+    write_block(words, out)
 }

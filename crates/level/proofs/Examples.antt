@@ -12,8 +12,7 @@ use Rattle.settings.specs.declared.types.Reading.{Reading}
 use Rattle.settings.specs.declared.types.Reading.the-variants.{Digital, Level}
 use Rattle.level.specs.Level.{met, frees}
 use Rattle.level.specs.Internal.Bits.{analogOf, metBits}
-use Rattle.level.specs.Rate.{newRate, sampleAfter}
-use Rattle.level.specs.declared.rate.Sample.{Sample}
+use Rattle.level.specs.Rate.{Sample, newRate, sampleAfter}
 
 abbrev real : ℕ → Float
 real pattern = ofBits binary32 pattern

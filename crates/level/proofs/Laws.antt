@@ -5,8 +5,7 @@ use Prim.Native.Nat.{ℕ}
 use lib.Dec.{leb·zero}
 use Rattle.wire.specs.Real.{zeroReal}
 use Rattle.settings.specs.declared.types.Reading.{Reading}
-use Rattle.level.specs.Rate.{newRate, sampleAfter}
-use Rattle.level.specs.declared.rate.Sample.{Sample}
+use Rattle.level.specs.Rate.{Sample, newRate, sampleAfter}
 
 -- with ROCPeriod 0 the rate is 0
 pub no-period : (enabled held : Bool) (time : ℕ) (x : Reading) (s : Sample)

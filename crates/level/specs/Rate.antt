@@ -7,7 +7,6 @@ use lib.Ieee.{Float, binary32, ofBits, ofInt, sub, mul, div}
 use Rattle.wire.specs.Real.{zeroReal}
 use Rattle.settings.specs.declared.types.Reading.{Reading}
 use Rattle.settings.specs.declared.types.Reading.the-variants.{Digital, Level}
-use Rattle.level.specs.declared.rate.Sample.{Sample}
 
 -- the REAL that a sample stores; a digital bit has none, and counts as 0
 abbrev pub valueOf : Reading → Float
@@ -24,6 +23,12 @@ periodReal period = ofInt binary32 (pos (min period 16777216))
 -- a new sample's rate: the difference from the stored sample, times 1000, over the period, each operation rounded once; 0 for period 0
 unfoldable pub newRate : ℕ → Float → Float → Float
 newRate period stored x = cond (eqb period 0) zeroReal (div binary32 (mul binary32 (sub binary32 x stored) thousand) (periodReal period))
+
+-- a stored reading, its scan's time, and the rate
+pub record Sample : Type 0 where
+  pub value : Float
+  pub rate : Float
+  pub at : ℕ
 
 -- what a scan says to the sample; `held`: the scan before was enabled and left a sample
 pub record Sampling : Type 0 where

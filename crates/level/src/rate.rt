@@ -1,20 +1,13 @@
-// The rate and its sample.
+// The rate, and the REAL that a sample stores.
 ghost use mathlib.Core.Path.{_≡_};
-ghost use mathlib.Core.Bool.{cond};
-ghost use Rattle.level.specs.Rate.{periodReal, newRate, valueOf, sampleAfter};
-use condition::row::choose;
-use condition::row::elapsed;
+ghost use lib.Ieee.{binary32, ofBits, toBits};
+ghost use Rattle.level.specs.Rate.{periodReal, newRate, valueOf};
 use settings::types::Reading;
-
-// The stored reading, its scan's time, and the rate.
-pub struct Sample {
-    pub value: f32,
-    pub rate: f32,
-    pub at: u64,
-}
+use wire::real::from_pattern;
+use wire::real::to_pattern;
 
 // The REAL that a sample stores.
-fn value_of(reading: Reading) -> f32
+pub fn value_of(reading: Reading) -> f32
     ensures { λ r. ⌜ r ≡ valueOf reading ⌝ }
 {
     match reading {
@@ -42,30 +35,9 @@ fn new_rate(period: u32, stored: f32, x: f32) -> f32
     (x - stored) * 1000.0 / period_real(period)
 }
 
-fn either(c: bool, x: f32, y: f32) -> f32
-    ensures { λ r. ⌜ r ≡ cond c x y ⌝ }
+// The pattern of a new sample's rate, by the pattern of the stored one.
+pub fn rate_pattern(period: u32, stored: u32, x: f32) -> u32
+    ensures { λ r. ⌜ r ≡ toBits binary32 (newRate period (ofBits binary32 stored) x) ⌝ }
 {
-    if c { x } else { y }
-}
-
-// The sample after a scan. `held` says that the scan before was enabled and left the sample `s`.
-pub fn sample_after(
-    period: u32,
-    enabled: bool,
-    held: bool,
-    time: u64,
-    reading: Reading,
-    s: Sample,
-) -> Sample
-    ensures { λ r. ⌜ r ≡ sampleAfter (record { period = period; enabled = enabled; held = held; time = time; reading = reading }) s ⌝ }
-{
-    let x = value_of(reading);
-    let due = period as u64 <= elapsed(s.at, time);
-    let keeps = held & !due;
-    let rate = either(due, new_rate(period, s.value, x), s.rate);
-    Sample {
-        value: either(keeps, s.value, x),
-        rate: either(enabled & held, rate, 0.0),
-        at: choose(keeps, s.at, time),
-    }
+    to_pattern(new_rate(period, from_pattern(stored), x))
 }

@@ -12,8 +12,6 @@ use Rattle.wire.proofs.Laws.{below}
 use Rattle.condition.specs.Internal.Mark.{Marks, marksAfter, timeStampAfter}
 use Rattle.settings.specs.Alarm.{blank, ackRequired}
 use Rattle.settings.specs.declared.types.Alarm.{Alarm}
-use Rattle.alarm.specs.Internal.Held.{freshState}
-use Rattle.alarm.specs.declared.state.State.{State}
 use Rattle.marks.specs.Internal.Marks.{marksAt, marksWords, turnAt, markCondition, markConditions, markAlarm, markAlarms}
 use Rattle.marks.proofs.Lengths.{length-conditions}
 pub use Rattle.marks.proofs.Lengths.{marks-length}
@@ -42,87 +40,87 @@ marks-same xs ys at h =
 
 -- ---- the conditions of an alarm
 
-module _ (required : Bool) (s : State) (word time : ℕ) where
+module _ (required : Bool) (starts : List ℕ) (word time : ℕ) where
   -- the last of n + 1 conditions
   condition-read : (base n : ℕ) (xs : List ℕ) → base + 4 * suc n ≤ length xs
-      → marksAt (markConditions required s word time base (suc n) xs) (base + 4 * n) ≡ after required s word time n (marksAt xs (base + 4 * n))
+      → marksAt (markConditions required starts word time base (suc n) xs) (base + 4 * n) ≡ after required starts word time n (marksAt xs (base + 4 * n))
   unfolding markConditions markCondition
   condition-read base n xs h =
-      let ys = markConditions required s word time base n xs in
-      let len = length-conditions required s word time base n xs in
-      words-read (after required s word time n (marksAt ys (base + 4 * n))) ys (base + 4 * n) (omega arith)
-      ∙ ap (after required s word time n) (marks-same ys xs (base + 4 * n) (λ j l m. conditions-outside required s word time base n j xs (λ k p e. omega arith)))
+      let ys = markConditions required starts word time base n xs in
+      let len = length-conditions required starts word time base n xs in
+      words-read (after required starts word time n (marksAt ys (base + 4 * n))) ys (base + 4 * n) (omega arith)
+      ∙ ap (after required starts word time n) (marks-same ys xs (base + 4 * n) (λ j l m. conditions-outside required starts word time base n j xs (λ k p e. omega arith)))
 
   conditions-read : (base n c : ℕ) (xs : List ℕ) → c < n → base + 4 * n ≤ length xs
-      → marksAt (markConditions required s word time base n xs) (base + 4 * c) ≡ after required s word time c (marksAt xs (base + 4 * c))
+      → marksAt (markConditions required starts word time base n xs) (base + 4 * c) ≡ after required starts word time c (marksAt xs (base + 4 * c))
   conditions-read base zero c xs l h = absurd (not-suc-le-zero l)
   conditions-read base (suc n) c xs l h =
-      let ys = markConditions required s word time base n xs in
-      let zs = markConditions required s word time base (suc n) xs in
-      below (λ (k : ℕ). marksAt zs (base + 4 * k) ≡ after required s word time k (marksAt xs (base + 4 * k))) l (condition-read base n xs h)
-      (λ m. marks-same zs ys (base + 4 * c) (λ j p q. condition-outside required s word time base n j xs (λ k r e. omega arith)) ∙ conditions-read base n c xs m (omega arith))
+      let ys = markConditions required starts word time base n xs in
+      let zs = markConditions required starts word time base (suc n) xs in
+      below (λ (k : ℕ). marksAt zs (base + 4 * k) ≡ after required starts word time k (marksAt xs (base + 4 * k))) l (condition-read base n xs h)
+      (λ m. marks-same zs ys (base + 4 * c) (λ j p q. condition-outside required starts word time base n j xs (λ k r e. omega arith)) ∙ conditions-read base n c xs m (omega arith))
 
   alarm-read : (at c : ℕ) (xs : List ℕ) → c < 6 → at + 25 ≤ length xs
-      → marksAt (markAlarm required s word time at xs) (at + 1 + 4 * c) ≡ after required s word time c (marksAt xs (at + 1 + 4 * c))
+      → marksAt (markAlarm required starts word time at xs) (at + 1 + 4 * c) ≡ after required starts word time c (marksAt xs (at + 1 + 4 * c))
   unfolding markAlarm
   alarm-read at c xs l h =
       let v = timeStampAfter (bit word 4) time (getD xs at 0) in
       conditions-read (at + 1) 6 c (set xs at v) l (rw length-set (omega arith))
-      ∙ ap (after required s word time c) (marks-same (set xs at v) xs (at + 1 + 4 * c) (λ j p q. getD-set-other xs at j v 0 (λ e. omega arith)))
+      ∙ ap (after required starts word time c) (marks-same (set xs at v) xs (at + 1 + 4 * c) (λ j p q. getD-set-other xs at j v 0 (λ e. omega arith)))
 
   reset-stored : (at : ℕ) (xs : List ℕ) → at + 25 ≤ length xs
-      → getD (markAlarm required s word time at xs) at 0 ≡ timeStampAfter (bit word 4) time (getD xs at 0)
+      → getD (markAlarm required starts word time at xs) at 0 ≡ timeStampAfter (bit word 4) time (getD xs at 0)
   unfolding markAlarm
   reset-stored at xs h =
       let v = timeStampAfter (bit word 4) time (getD xs at 0) in
-      conditions-outside required s word time (at + 1) 6 at (set xs at v) (λ k l e. omega arith) ∙ getD-set-same xs at v 0 (omega arith)
+      conditions-outside required starts word time (at + 1) 6 at (set xs at v) (λ k l e. omega arith) ∙ getD-set-same xs at v 0 (omega arith)
 
 -- ---- the alarms
 
-module _ (alarms : List Alarm) (states : List State) (events : List ℕ) (time : ℕ) where
+module _ (alarms : List Alarm) (starts : ℕ → List ℕ) (events : List ℕ) (time : ℕ) where
   abbrev required : ℕ → Bool
   required p = ackRequired (getD alarms p blank .kind) (getD alarms p blank .flags)
 
   -- marking the last of n + 1 alarms leaves those before it
-  alarm-before : (n j : ℕ) (xs : List ℕ) → j < 25 * n → getD (markAlarms alarms states events time (suc n) xs) j 0 ≡ getD (markAlarms alarms states events time n xs) j 0
+  alarm-before : (n j : ℕ) (xs : List ℕ) → j < 25 * n → getD (markAlarms alarms starts events time (suc n) xs) j 0 ≡ getD (markAlarms alarms starts events time n xs) j 0
   unfolding markAlarms
   alarm-before n j xs h =
-      alarm-outside (required n) (getD states n freshState) (getD events n 0) time (25 * n) j (markAlarms alarms states events time n xs) (λ k l e. omega arith)
+      alarm-outside (required n) (starts n) (getD events n 0) time (25 * n) j (markAlarms alarms starts events time n xs) (λ k l e. omega arith)
 
   -- the last of n + 1 alarms
   alarm-marks : (n c : ℕ) (xs : List ℕ) → c < 6 → 25 * suc n ≤ length xs
-      → marksAt (markAlarms alarms states events time (suc n) xs) (25 * n + 1 + 4 * c) ≡ after (required n) (getD states n freshState) (getD events n 0) time c (marksAt xs (25 * n + 1 + 4 * c))
+      → marksAt (markAlarms alarms starts events time (suc n) xs) (25 * n + 1 + 4 * c) ≡ after (required n) (starts n) (getD events n 0) time c (marksAt xs (25 * n + 1 + 4 * c))
   unfolding markAlarms
   alarm-marks n c xs l h =
-      let ys = markAlarms alarms states events time n xs in
-      let len = marks-length alarms states events time n xs in
-      alarm-read (required n) (getD states n freshState) (getD events n 0) time (25 * n) c ys l (omega arith)
-      ∙ ap (after (required n) (getD states n freshState) (getD events n 0) time c) (marks-same ys xs (25 * n + 1 + 4 * c) (λ j p q. alarms-outside alarms states events time n j xs (omega arith)))
+      let ys = markAlarms alarms starts events time n xs in
+      let len = marks-length alarms starts events time n xs in
+      alarm-read (required n) (starts n) (getD events n 0) time (25 * n) c ys l (omega arith)
+      ∙ ap (after (required n) (starts n) (getD events n 0) time c) (marks-same ys xs (25 * n + 1 + 4 * c) (λ j p q. alarms-outside alarms starts events time n j xs (omega arith)))
 
   alarm-reset : (n : ℕ) (xs : List ℕ) → 25 * suc n ≤ length xs
-      → getD (markAlarms alarms states events time (suc n) xs) (25 * n) 0 ≡ timeStampAfter (bit (getD events n 0) 4) time (getD xs (25 * n) 0)
+      → getD (markAlarms alarms starts events time (suc n) xs) (25 * n) 0 ≡ timeStampAfter (bit (getD events n 0) 4) time (getD xs (25 * n) 0)
   unfolding markAlarms
   alarm-reset n xs h =
-      let ys = markAlarms alarms states events time n xs in
-      let len = marks-length alarms states events time n xs in
-      reset-stored (required n) (getD states n freshState) (getD events n 0) time (25 * n) ys (omega arith)
-      ∙ ap (timeStampAfter (bit (getD events n 0) 4) time) (alarms-outside alarms states events time n (25 * n) xs (omega arith))
+      let ys = markAlarms alarms starts events time n xs in
+      let len = marks-length alarms starts events time n xs in
+      reset-stored (required n) (starts n) (getD events n 0) time (25 * n) ys (omega arith)
+      ∙ ap (timeStampAfter (bit (getD events n 0) 4) time) (alarms-outside alarms starts events time n (25 * n) xs (omega arith))
 
   -- a condition's words after the scan, from those before it
   pub mark-read : (n p c : ℕ) (xs : List ℕ) → p < n → c < 6 → 25 * n ≤ length xs
-      → marksAt (markAlarms alarms states events time n xs) (25 * p + 1 + 4 * c)
-      ≡ marksAfter (turnAt (ackRequired (getD alarms p blank .kind) (getD alarms p blank .flags)) (getD states p freshState) (getD events p 0) time c) (marksAt xs (25 * p + 1 + 4 * c))
+      → marksAt (markAlarms alarms starts events time n xs) (25 * p + 1 + 4 * c)
+      ≡ marksAfter (turnAt (ackRequired (getD alarms p blank .kind) (getD alarms p blank .flags)) (starts p) (getD events p 0) time c) (marksAt xs (25 * p + 1 + 4 * c))
   mark-read zero p c xs l m h = absurd (not-suc-le-zero l)
   mark-read (suc n) p c xs l m h =
-      let ys = markAlarms alarms states events time n xs in
-      let zs = markAlarms alarms states events time (suc n) xs in
-      below (λ (k : ℕ). marksAt zs (25 * k + 1 + 4 * c) ≡ after (required k) (getD states k freshState) (getD events k 0) time c (marksAt xs (25 * k + 1 + 4 * c))) l (alarm-marks n c xs m h)
+      let ys = markAlarms alarms starts events time n xs in
+      let zs = markAlarms alarms starts events time (suc n) xs in
+      below (λ (k : ℕ). marksAt zs (25 * k + 1 + 4 * c) ≡ after (required k) (starts k) (getD events k 0) time c (marksAt xs (25 * k + 1 + 4 * c))) l (alarm-marks n c xs m h)
       (λ b. marks-same zs ys (25 * p + 1 + 4 * c) (λ j _ q. alarm-before n j xs (omega arith)) ∙ mark-read n p c xs b m (omega arith))
 
   -- an alarm's count reset stamp after the scan, from that before it
   pub reset-read : (n p : ℕ) (xs : List ℕ) → p < n → 25 * n ≤ length xs
-      → getD (markAlarms alarms states events time n xs) (25 * p) 0 ≡ timeStampAfter (bit (getD events p 0) 4) time (getD xs (25 * p) 0)
+      → getD (markAlarms alarms starts events time n xs) (25 * p) 0 ≡ timeStampAfter (bit (getD events p 0) 4) time (getD xs (25 * p) 0)
   reset-read zero p xs l h = absurd (not-suc-le-zero l)
   reset-read (suc n) p xs l h =
-      below (λ (k : ℕ). getD (markAlarms alarms states events time (suc n) xs) (25 * k) 0 ≡ timeStampAfter (bit (getD events k 0) 4) time (getD xs (25 * k) 0)) l (alarm-reset n xs h)
+      below (λ (k : ℕ). getD (markAlarms alarms starts events time (suc n) xs) (25 * k) 0 ≡ timeStampAfter (bit (getD events k 0) 4) time (getD xs (25 * k) 0)) l (alarm-reset n xs h)
       (λ b. alarm-before n (25 * p) xs (omega arith) ∙ reset-read n p xs b (omega arith))

@@ -1,8 +1,9 @@
 -- A turn of the loop over an alarm's conditions, and of that over the alarms. Assumes nothing.
 use mathlib.Core.Bool.{Bool}
 use mathlib.Core.List.{List}
-use mathlib.Core.Path.{_≡_, ap, _∙_}
-use Prim.Native.Nat.{ℕ, _+_, _*_, _/_, _^_}
+use mathlib.Core.Path.{_≡_, refl, ap, _∙_}
+use Prim.Native.Nat.{ℕ, zero, suc, _+_, _*_, _/_, _^_, _<_}
+use native.Mathlib.Nat.{add-zero}
 use native.Mathlib.Numerals.{add-one}
 use native.Mathlib.Omega.{arith}
 use lib.ListN.{getD}
@@ -11,9 +12,7 @@ use Rattle.wire.specs.Bits.{bit}
 use Rattle.wire.proofs.WordLaws.{bit-shift}
 use Rattle.settings.specs.Alarm.{blank, ackRequired}
 use Rattle.settings.specs.declared.types.Alarm.{Alarm}
-use Rattle.alarm.specs.Internal.Held.{freshState}
-use Rattle.alarm.specs.declared.state.State.{State}
-use Rattle.marks.specs.Internal.Marks.{startAt, turnBy, markCondition, markConditions, markAlarm, markAlarms}
+use Rattle.marks.specs.Internal.Marks.{turnBy, startsIn, markCondition, markConditions, markAlarm, markAlarms}
 
 -- events without those of the first n conditions, and then of one more
 pub rest-next : (word n : ℕ) {rest : ℕ} → rest ≡ word / 2 ^ (6 + 3 * n) → rest / 8 ≡ word / 2 ^ (6 + 3 * (n + 1))
@@ -24,19 +23,29 @@ rest-next word n e =
 rest-bit : (word n j k : ℕ) {rest : ℕ} → rest ≡ word / 2 ^ (6 + 3 * n) → 6 + 3 * n + j ≡ k → bit rest j ≡ bit word k
 rest-bit word n j k e p = ap (λ (w : ℕ). bit w j) e ∙ bit-shift word (6 + 3 * n) j ∙ ap (bit word) p
 
+-- the start of a condition's row stands among the words of the states
+pub start-in : (ws : List ℕ) (from n : ℕ) → n < 6 → getD ws (from + n) 0 ≡ getD (startsIn ws from) n 0
+start-in ws from zero h = rw (add-zero from)
+start-in ws from (suc zero) h = refl
+start-in ws from (suc (suc zero)) h = refl
+start-in ws from (suc (suc (suc zero))) h = refl
+start-in ws from (suc (suc (suc (suc zero)))) h = refl
+start-in ws from (suc (suc (suc (suc (suc zero))))) h = refl
+start-in ws from (suc (suc (suc (suc (suc (suc n)))))) h = absurd (omega arith)
+
 -- the first n conditions are marked, and then the next
-pub conditions-next : (required : Bool) (s : State) (word time base n : ℕ) (xs : List ℕ) {rest start : ℕ} {marks : List ℕ}
-    → rest ≡ word / 2 ^ (6 + 3 * n) → start ≡ startAt s n → marks ≡ markConditions required s word time base n xs
+pub conditions-next : (required : Bool) (starts : List ℕ) (word time base n : ℕ) (xs : List ℕ) {rest start : ℕ} {marks : List ℕ}
+    → rest ≡ word / 2 ^ (6 + 3 * n) → start ≡ getD starts n 0 → marks ≡ markConditions required starts word time base n xs
     → markCondition (turnBy (bit word 4) rest required start time) (base + 4 * n) marks
-    ≡ markConditions required s word time base (n + 1) xs
+    ≡ markConditions required starts word time base (n + 1) xs
 unfolding markConditions
-conditions-next required s word time base n xs e f g =
+conditions-next required starts word time base n xs e f g =
     rw (rest-bit word n 0 (6 + 3 * n) e (omega arith), rest-bit word n 1 (7 + 3 * n) e (omega arith), rest-bit word n 2 (8 + 3 * n) e (omega arith), f, g, add-one n)
 
 -- the first n alarms are marked, and then the next
-pub alarms-next : (alarms : List Alarm) (states : List State) (events : List ℕ) (time n : ℕ) (xs : List ℕ) {required : Bool} {s : State} {marks : List ℕ}
-    → required ≡ ackRequired (getD alarms n blank .kind) (getD alarms n blank .flags) → s ≡ getD states n freshState
-    → marks ≡ markAlarms alarms states events time n xs
-    → markAlarm required s (getD events n 0) time (25 * n) marks ≡ markAlarms alarms states events time (n + 1) xs
+pub alarms-next : (alarms : List Alarm) (starts : ℕ → List ℕ) (events : List ℕ) (time n : ℕ) (xs : List ℕ) {required : Bool} {own : List ℕ} {marks : List ℕ}
+    → required ≡ ackRequired (getD alarms n blank .kind) (getD alarms n blank .flags) → own ≡ starts n
+    → marks ≡ markAlarms alarms starts events time n xs
+    → markAlarm required own (getD events n 0) time (25 * n) marks ≡ markAlarms alarms starts events time (n + 1) xs
 unfolding markAlarms
-alarms-next alarms states events time n xs e f g = rw (e, f, g, add-one n)
+alarms-next alarms starts events time n xs e f g = rw (e, f, g, add-one n)

@@ -1,25 +1,18 @@
 // The words of one condition: count, alarm stamp, ack stamp, return stamp.
 ghost use mathlib.Core.Path.{_≡_};
 ghost use Prim.Native.Nat.{_+_, _≤_, _<_};
-ghost use lib.ListN.{length};
-ghost use Rattle.marks.specs.Internal.Marks.{markCondition, startAt, turnBy};
-use alarm::state::State;
+ghost use lib.ListN.{length, getD};
+ghost use Rattle.marks.specs.Internal.Marks.{markCondition, turnBy};
 use condition::mark::ack_stamp;
 use condition::mark::count_after;
 use condition::row::choose;
 
-// When the row of scans began that met the condition at a place.
-pub fn start_at(s: State, place: usize) -> u64
-    requires { ⌜ place < 6 ⌝ }
-    ensures { λ r. ⌜ r ≡ startAt s place ⌝ }
-{
-    let starts = [s.hh, s.h, s.l, s.ll, s.rocpos, s.rocneg];
-    starts[place]
-}
+// The words of a condition.
+pub const CONDITION_WORDS: usize = 4;
 
 // Marks what a scan did to the condition whose words begin at `at`: of `events`, bit 0 is acknowledged, 1 returned, 2
 // activated.
-pub fn mark_condition(
+fn mark_condition(
     marks: &mut [u64],
     at: usize,
     reset: bool,
@@ -42,4 +35,25 @@ pub fn mark_condition(
     marks[at + 1] = choose(activated, start, alarm);
     marks[at + 2] = ack_stamp(acknowledged, activated, required, start, time, ack);
     marks[at + 3] = choose(returned, time, back);
+}
+
+// The same, from the word that has the start of the condition's row. Without events and a reset the words stay as they
+// are, and none is touched.
+pub fn mark_turn(
+    marks: &mut [u64],
+    at: usize,
+    reset: bool,
+    events: u32,
+    required: bool,
+    states: &[u64],
+    start: usize,
+    time: u64,
+)
+    requires { ⌜ (at + 4 ≤ length (now marks)) × (start < length (now states)) ⌝ }
+    ensures { λ _. ⌜ now (marks .exit) ≡ markCondition (turnBy reset events required (getD (now (states .entry)) start 0) time) at (now (marks .entry)) ⌝ }
+{
+    if !reset & (events % 8 == 0) {
+        return;
+    }
+    mark_condition(marks, at, reset, events, required, states[start], time);
 }

@@ -1,8 +1,10 @@
 // A drive: the scan records of standard input, run on a bank.
 use crate::show::add_answer;
 use crate::show::add_bank;
-use bank::bank::Bank;
 use bank::scan::scan;
+use layout::sizes::MARKS_WORDS;
+use layout::sizes::SETTINGS_WORDS;
+use layout::sizes::STATES_WORDS;
 use scan_record::check::record_length;
 use text::input::Source;
 use text::input::part;
@@ -11,47 +13,68 @@ use text::pieces::goes_on;
 use text::pieces::next_piece;
 use text::pieces::no_piece;
 
-// The bank after a record, whose events or refusal wait then.
+// Where a bank's settings say how many digital alarms it has, and how many analog ones.
+const DIGITAL: usize = 1;
+
+const ANALOG: usize = 2;
+
+// Bytes that suffice for the events of a scan.
+const EVENTS_ROOM: usize = 3840;
+
+// How many bytes a record for a bank has.
+fn size_for(settings: &[u64; SETTINGS_WORDS]) -> usize {
+    record_length(settings[DIGITAL] as usize, settings[ANALOG] as usize)
+}
+
+// Runs a record, and adds its events or its refusal to what waits.
 fn run_record(
-    bank: Bank,
+    settings: &[u64; SETTINGS_WORDS],
+    states: &mut [u64; STATES_WORDS],
+    marks: &mut [u64; MARKS_WORDS],
     bytes: &[u8],
-    events: &mut [u8],
     text: &mut [u8],
-    waiting: &mut usize,
-) -> Bank {
-    let scanned = scan(bank, bytes, events);
-    let next = scanned.bank;
-    let answer = scanned.answer;
-    *waiting = add_answer(text, *waiting, answer, events);
-    next
+    waiting: usize,
+) -> usize {
+    let mut events = [0u8; EVENTS_ROOM];
+    let answer = scan(settings, states, marks, bytes, &mut events);
+    add_answer(text, waiting, answer, &events)
 }
 
 // Ends a drive: adds how each condition stands, and writes what waits. A read that failed is no end, and nothing is added then.
-fn finish(bank: Bank, source: Source, text: &mut [u8], waiting: usize) {
+fn finish(
+    settings: &[u64; SETTINGS_WORDS],
+    states: &[u64; STATES_WORDS],
+    marks: &[u64; MARKS_WORDS],
+    source: Source,
+    text: &mut [u8],
+    waiting: usize,
+) {
     let Source::Ended = source else {
         return;
     };
-    let at = add_bank(text, waiting, bank);
+    let digital = settings[DIGITAL] as usize;
+    let at = add_bank(text, waiting, settings, states, marks, digital);
     flush(text, at);
 }
 
 // Runs all of standard input. As in `next_piece` the loop counts its turns down.
-pub fn run(bank: Bank) {
-    let settings = bank.settings;
-    let size = record_length(settings.digital, settings.analog);
-    let mut events = [0u8; 3840];
+pub fn run(
+    settings: &[u64; SETTINGS_WORDS],
+    states: &mut [u64; STATES_WORDS],
+    marks: &mut [u64; MARKS_WORDS],
+) {
+    let size = size_for(settings);
     let mut block = io::large_buffer();
     let mut text = io::large_buffer();
     let mut waiting = 0;
-    let mut next = bank;
     let mut piece = next_piece(no_piece(), size, &mut block, &text, &mut waiting);
     let mut turns = u64::MAX;
     while 0 < turns && goes_on(piece, waiting) {
         let bytes = part(&block, piece.from, piece.end);
-        next = run_record(next, bytes, &mut events, &mut text, &mut waiting);
+        waiting = run_record(settings, states, marks, bytes, &mut text, waiting);
         piece = next_piece(piece, size, &mut block, &text, &mut waiting);
         turns -= 1;
     }
     let source = piece.source;
-    finish(next, source, &mut text, waiting);
+    finish(settings, states, marks, source, &mut text, waiting);
 }

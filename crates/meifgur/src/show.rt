@@ -1,10 +1,9 @@
 // What a bank's calls answer, as lines. Each function adds to what waits and answers how much waits then.
 ghost use Prim.Native.Nat.{_≤_};
 ghost use lib.ListN.{length};
-use bank::bank::Bank;
+use bank::answer::Answer;
 use report::report::report;
 use report::status::Status;
-use scan_parts::parts::Answer;
 use settings::reply::Refusal;
 use settings::reply::Reply;
 use text::show::add_form;
@@ -97,14 +96,19 @@ fn add_conditions(
     at
 }
 
-// Adds all conditions of a bank, alarm by alarm up to the first number that no alarm has.
-pub fn add_bank(text: &mut [u8], waiting: usize, bank: Bank) -> usize {
-    let settings = bank.settings;
-    let digital = settings.digital;
+// Adds all conditions of a bank with so many digital alarms, alarm by alarm up to the first number that no alarm has.
+pub fn add_bank(
+    text: &mut [u8],
+    waiting: usize,
+    settings: &[u64],
+    states: &[u64],
+    marks: &[u64],
+    digital: usize,
+) -> usize {
     let mut at = waiting;
     let mut n = 1;
     while n <= 24 {
-        let found = report(bank, n);
+        let found = report(settings, states, marks, n);
         let reply = found.reply;
         let Reply::Accepted = reply else {
             return at;

@@ -6,9 +6,9 @@ use scan_record::check::record_length;
 // Of these calls and their layouts.
 #[no_mangle]
 pub extern "C" fn meifgur_version() -> u32
-    ensures { λ r. ⌜ r ≡ 1 ⌝ }
+    ensures { λ r. ⌜ r ≡ 2 ⌝ }
 {
-    1
+    2
 }
 
 // Bytes of an event record (`length-event` of crates/event).
@@ -41,6 +41,28 @@ pub extern "C" fn meifgur_report_size() -> u32
     ensures { λ r. ⌜ r ≡ 224 ⌝ }
 {
     224
+}
+
+// Words of a bank's settings, of its states, and of its counts and stamps (the lengths that `fitOf` of crates/bank asks for).
+#[no_mangle]
+pub extern "C" fn meifgur_settings_words() -> u32
+    ensures { λ r. ⌜ r ≡ 292 ⌝ }
+{
+    292
+}
+
+#[no_mangle]
+pub extern "C" fn meifgur_states_words() -> u32
+    ensures { λ r. ⌜ r ≡ 580 ⌝ }
+{
+    580
+}
+
+#[no_mangle]
+pub extern "C" fn meifgur_marks_words() -> u32
+    ensures { λ r. ⌜ r ≡ 900 ⌝ }
+{
+    900
 }
 
 // Bytes of a scan record, for so many alarms of each kind.

@@ -10,16 +10,16 @@ use borrow.Author.Tests.{leb-true, leb-false}
 use lib.Dec.{leb}
 use lib.ListN.{length, take, drop, length-append, length-take, length-drop, drop-of-length-le}
 use lib.Seq.{take-all}
+use Rattle.layout.specs.Internal.Block.{digitalIn, analogIn}
 use Rattle.scan_record.specs.Part.{recordSize}
 use Rattle.scan_record.specs.Internal.Size.{lengthOf}
-use Rattle.scan_parts.specs.declared.parts.Answer.{Answer}
-use Rattle.scan_parts.specs.declared.parts.Answer.the-variants.{Events, Refused}
-use Rattle.bank.specs.Internal.Scan.{scanOf, eventBuffer}
-use Rattle.bank.specs.declared.bank.Bank.{Bank}
-use Rattle.bank.specs.declared.scan.Scanned.{Scanned}
-use Rattle.bank.proofs.Fits.{fits, buffer-length}
-use Rattle.replay.specs.Replay.{sizeFor, driveRecord, recordsIn, counted, tallyOf, start, byAnswer, Progress, usedOf, leftOf, onward, progressAfter, replayOf}
-use Rattle.replay.specs.declared.replay.Replayed.{Replayed}
+use Rattle.bank.specs.Lent.{Words}
+use Rattle.bank.specs.Internal.Words.{wordsIn, answerOf, scannedWords, bufferOf}
+use Rattle.bank.specs.declared.answer.Answer.{Answer}
+use Rattle.bank.specs.declared.answer.Answer.the-variants.{Events, Refused}
+use Rattle.bank.proofs.Fits.{fits, buffer-length, Alike, alike-self, alike-on, scan-alike}
+use Rattle.replay.specs.Replay.{sizeFor, driveRecord, recordsIn, noneYet, counted, Progress, usedOf, leftOf, onward, progressAfter, replayOf}
+use Rattle.replay.specs.declared.replay.Tally.{Tally}
 
 -- a record has at least its time
 size-least : (digital analog : ℕ) → 8 ≤ lengthOf digital analog
@@ -32,82 +32,107 @@ size-least digital analog = go (leb digital 12 && leb analog 12)
 
 -- ---- one more record
 
-module _ (d : Replayed) (buffer : List ℕ) (i : ℕ) (rec : List ℕ) where
-  onward-length : length (onward d buffer i rec .buffer) ≡ length buffer
+module _ (p : Progress) (i : ℕ) (rec : List ℕ) where
+  abbrev used : ℕ
+  used = 16 * p .tally .events
+
+  abbrev answer : Answer
+  answer = answerOf (p .words) rec (length (leftOf p))
+
+  onward-length : length (onward p i rec .buffer) ≡ length (p .buffer)
   unfolding onward
   onward-length =
       omega (
         arith,
-        length-append (usedOf d buffer) (eventBuffer (d .bank) rec (leftOf d buffer)),
-        buffer-length (d .bank) rec (leftOf d buffer),
-        length-take (16 * d .events) buffer,
-        length-drop (16 * d .events) buffer,
+        length-append (usedOf p) (bufferOf (p .words) rec (leftOf p)),
+        buffer-length (p .words) rec (leftOf p),
+        length-take used (p .buffer),
+        length-drop used (p .buffer),
       )
 
   -- the events so far still fit
-  onward-fits : 16 * d .events ≤ length buffer → 16 * onward d buffer i rec .done .events ≤ length buffer
+  onward-fits : used ≤ length (p .buffer) → 16 * onward p i rec .tally .events ≤ length (p .buffer)
   unfolding onward
-  onward-fits h = let s = scanOf (d .bank) rec (length (leftOf d buffer)) in go (s .bank) (s .answer) refl
+  onward-fits h = go answer refl
     where
-      go : (b : Bank) (x : Answer) → scanOf (d .bank) rec (length (leftOf d buffer)) .answer ≡ x → 16 * byAnswer d i b x .events ≤ length buffer
-      go b (Events n) e = omega (arith, fits (d .bank) rec (length (leftOf d buffer)) e, length-drop (16 * d .events) buffer)
-      go b (Refused r) e = h
+      go : (x : Answer) → answer ≡ x → 16 * counted (p .tally) x i .events ≤ length (p .buffer)
+      go (Events n) e = omega (arith, fits (p .words) rec (length (leftOf p)) e, length-drop used (p .buffer))
+      go (Refused r) e = h
 
-  onward-refused : onward d buffer i rec .done .refused ≤ d .refused + 1
+  onward-refused : onward p i rec .tally .refused ≤ p .tally .refused + 1
   unfolding onward
-  onward-refused = let s = scanOf (d .bank) rec (length (leftOf d buffer)) in go (s .bank) (s .answer)
+  onward-refused = go answer
     where
-      go : (b : Bank) (x : Answer) → byAnswer d i b x .refused ≤ d .refused + 1
-      go b (Events n) = omega arith
-      go b (Refused r) = omega arith
+      go : (x : Answer) → counted (p .tally) x i .refused ≤ p .tally .refused + 1
+      go (Events n) = omega arith
+      go (Refused r) = omega arith
 
   -- what is lent from the end of the events so far to the end of the buffer
-  abbrev lent : List ℕ
-  lent = take (length buffer - 16 * d .events) (leftOf d buffer)
+  abbrev pub lent : List ℕ
+  lent = take (length (p .buffer) - used) (leftOf p)
 
-  lent-all : lent ≡ leftOf d buffer
-  lent-all = take-all (length buffer - 16 * d .events) (leftOf d buffer) (omega (arith, length-drop (16 * d .events) buffer))
+  lent-all : lent ≡ leftOf p
+  lent-all = take-all (length (p .buffer) - used) (leftOf p) (omega (arith, length-drop used (p .buffer)))
 
-  pub onward-done : {s : Scanned} {x : Answer} → s ≡ scanOf (d .bank) rec (length lent) → s .answer ≡ x → byAnswer d i (s .bank) x ≡ onward d buffer i rec .done
+  -- with the answer to it, the events still fit
+  pub answer-fits : {x : Answer} → x ≡ answerOf (p .words) rec (length lent) → used ≤ length (p .buffer) → 16 * counted (p .tally) x i .events ≤ length (p .buffer)
   unfolding onward
-  onward-done e f = rw (← f, e, lent-all)
+  answer-fits e h = rw (e, lent-all) (onward-fits h)
 
-  -- with that answer, the events still fit
-  pub answer-fits : {s : Scanned} → s ≡ scanOf (d .bank) rec (length lent) → 16 * d .events ≤ length buffer
-      → 16 * counted (tallyOf d) (s .answer) i .events ≤ length buffer
-  answer-fits e h = omega (arith, onward-fits h, ap (λ (r : Replayed). r .events) (onward-done e refl))
+  onward-tally : {t : Tally} {x : Answer} → t ≡ counted (p .tally) x i → x ≡ answerOf (p .words) rec (length lent) → t ≡ onward p i rec .tally
+  unfolding onward
+  onward-tally e a = rw (e, a, lent-all)
 
-  pub onward-buffer : {ys : List ℕ} → ys ≡ eventBuffer (d .bank) rec lent
-      → usedOf d buffer ++ (ys ++ drop (length buffer - 16 * d .events) (leftOf d buffer)) ≡ onward d buffer i rec .buffer
+  -- the settings stay
+  onward-words : {states marks : List ℕ} → states ≡ scannedWords (p .words) rec (length lent) .states → marks ≡ scannedWords (p .words) rec (length lent) .marks
+      → wordsIn (p .words .settings) states marks ≡ onward p i rec .words
+  unfolding onward
+  onward-words s m =
+      let kept = sym (scan-alike (p .words) rec (length lent) .settings-same) in
+      (λ j. wordsIn (kept j) (s j) (m j)) ∙ ap (λ (l : List ℕ). scannedWords (p .words) rec (length l)) lent-all
+
+  onward-buffer : {ys : List ℕ} → ys ≡ bufferOf (p .words) rec lent → usedOf p ++ (ys ++ drop (length (p .buffer) - used) (leftOf p)) ≡ onward p i rec .buffer
   unfolding onward
   onward-buffer e =
-      let none = drop-of-length-le (leftOf d buffer) {i = length buffer - 16 * d .events} (omega (arith, length-drop (16 * d .events) buffer)) in
+      let none = drop-of-length-le (leftOf p) {i = length (p .buffer) - used} (omega (arith, length-drop used (p .buffer))) in
       rw (e, lent-all, none, append-nil)
+
+  -- after a scan that was lent it
+  pub onward-is : {t : Tally} {x : Answer} {states marks ys : List ℕ} → t ≡ counted (p .tally) x i → x ≡ answerOf (p .words) rec (length lent)
+      → states ≡ scannedWords (p .words) rec (length lent) .states → marks ≡ scannedWords (p .words) rec (length lent) .marks → ys ≡ bufferOf (p .words) rec lent
+      → record { words = wordsIn (p .words .settings) states marks; tally = t; buffer = usedOf p ++ (ys ++ drop (length (p .buffer) - used) (leftOf p)) } ≡ onward p i rec
+  onward-is e a s m o = λ j. record { words = onward-words s m j; tally = onward-tally e a j; buffer = onward-buffer o j }
+
+  onward-alike : Alike (onward p i rec .words) (p .words)
+  unfolding onward
+  onward-alike = scan-alike (p .words) rec (length (leftOf p))
 
 -- ---- the first records
 
-module _ (b : Bank) (bytes out : List ℕ) where
-  run-next : (n : ℕ) → progressAfter b bytes out (n + 1) ≡ onward (progressAfter b bytes out n .done) (progressAfter b bytes out n .buffer) n (driveRecord (sizeFor b) bytes n)
+module _ (w : Words) (bytes out : List ℕ) where
+  run-next : (n : ℕ) → progressAfter w bytes out (n + 1) ≡ onward (progressAfter w bytes out n) n (driveRecord (sizeFor w) bytes n)
   unfolding progressAfter
   run-next n = rw (add-one n)
 
   -- what holds after the first n records
   pub record Kept (n : ℕ) : Type 0 where
-    pub same : length (progressAfter b bytes out n .buffer) ≡ length out
-    pub room : 16 * progressAfter b bytes out n .done .events ≤ length out
-    pub few : progressAfter b bytes out n .done .refused ≤ n
+    pub same : length (progressAfter w bytes out n .buffer) ≡ length out
+    pub room : 16 * progressAfter w bytes out n .tally .events ≤ length out
+    pub few : progressAfter w bytes out n .tally .refused ≤ n
+    pub alike : Alike (progressAfter w bytes out n .words) w
 
   pub kept : (n : ℕ) → Kept n
   unfolding progressAfter
-  kept zero = record { same = refl; room = omega arith; few = omega arith }
+  kept zero = record { same = refl; room = omega arith; few = omega arith; alike = alike-self w }
   kept (suc n) =
       let k = kept n in
-      let r = progressAfter b bytes out n in
-      let rec = driveRecord (sizeFor b) bytes n in
+      let p = progressAfter w bytes out n in
+      let rec = driveRecord (sizeFor w) bytes n in
       record {
-        same = onward-length (r .done) (r .buffer) n rec ∙ k .same;
-        room = omega (arith, onward-fits (r .done) (r .buffer) n rec (omega arith), k .same);
-        few = omega (arith, onward-refused (r .done) (r .buffer) n rec, k .few);
+        same = onward-length p n rec ∙ k .same;
+        room = omega (arith, onward-fits p n rec (omega arith), k .same);
+        few = omega (arith, onward-refused p n rec, k .few);
+        alike = alike-on (onward-alike p n rec) (k .alike);
       }
 
 -- ---- where each record begins and ends
@@ -134,58 +159,56 @@ module _ (size : ℕ) (bytes : List ℕ) (least : 8 ≤ size) where
           ∙ sym (take-all size (drop (size * i) bytes) (omega (arith, leb-false (size * i + size) (length bytes) k)))
 
 -- before the record with index i, which begins at offset `at`: what the loop keeps
-pub record Going (b : Bank) (bytes out : List ℕ) (size : ℕ) (d : Replayed) (buffer : List ℕ) (i at : ℕ) : Type 0 where
-  pub sized : size ≡ sizeFor b
+pub record Going (w : Words) (bytes out : List ℕ) (size : ℕ) (p : Progress) (i at : ℕ) : Type 0 where
+  pub sized : size ≡ sizeFor w
   pub begins : at ≡ min (size * i) (length bytes)
   pub begun : size * i < length bytes + size
-  pub done : d ≡ progressAfter b bytes out i .done
-  pub written : buffer ≡ progressAfter b bytes out i .buffer
+  pub so-far : p ≡ progressAfter w bytes out i
 
-pub going-first : (b : Bank) (bytes out : List ℕ) → Going b bytes out (sizeFor b) (start b) out 0 0
+pub going-first : (w : Words) (bytes out : List ℕ) → Going w bytes out (sizeFor w) (record { words = w; tally = noneYet; buffer = out }) 0 0
 unfolding progressAfter
-going-first b bytes out =
+going-first w bytes out =
     record {
       sized = refl;
-      begins = omega (arith, mul-zero (sizeFor b));
-      begun = omega (arith, mul-zero (sizeFor b), size-least (b .settings .digital) (b .settings .analog));
-      done = refl;
-      written = refl;
+      begins = omega (arith, mul-zero (sizeFor w));
+      begun = omega (arith, mul-zero (sizeFor w), size-least (digitalIn (w .settings)) (analogIn (w .settings)));
+      so-far = refl;
     }
 
-module _ {b : Bank} {bytes out : List ℕ} {size : ℕ} {d : Replayed} {buffer : List ℕ} {i at : ℕ} (g : Going b bytes out size d buffer i at) where
+module _ {w : Words} {bytes out : List ℕ} {size : ℕ} {p : Progress} {i at : ℕ} (g : Going w bytes out size p i at) where
   pub least : 8 ≤ size
-  least = rw (g .sized) (size-least (b .settings .digital) (b .settings .analog))
+  least = rw (g .sized) (size-least (digitalIn (w .settings)) (analogIn (w .settings)))
 
-  pub has-room : 16 * d .events ≤ length buffer
-  has-room = rw (g .done, g .written) (omega (arith, kept b bytes out i .room, kept b bytes out i .same))
+  pub has-room : 16 * p .tally .events ≤ length (p .buffer)
+  has-room = rw (g .so-far) (omega (arith, kept w bytes out i .room, kept w bytes out i .same))
 
-  pub same-length : length buffer ≡ length out
-  same-length = ap length (g .written) ∙ kept b bytes out i .same
+  pub same-length : length (p .buffer) ≡ length out
+  same-length = ap (λ (q : Progress). length (q .buffer)) (g .so-far) ∙ kept w bytes out i .same
 
-  pub few-refused : d .refused ≤ i
-  few-refused = rw (g .done) (kept b bytes out i .few)
+  pub still-alike : Alike (p .words) w
+  still-alike = rw (g .so-far) (kept w bytes out i .alike)
+
+  pub few-refused : p .tally .refused ≤ i
+  few-refused = rw (g .so-far) (kept w bytes out i .few)
 
   -- an index is below the number of bytes
   pub few-records : at < length bytes → i < length bytes
   few-records h = omega (arith, least, mul-le-mul-right i least, g .begins)
 
-  pub going-next : {e : ℕ} {d′ : Replayed} {buffer′ : List ℕ} → at < length bytes → e ≡ min (at + size) (length bytes)
-      → d′ ≡ onward d buffer i (take (e - at) (drop at bytes)) .done → buffer′ ≡ onward d buffer i (take (e - at) (drop at bytes)) .buffer
-      → Going b bytes out size d′ buffer′ (i + 1) e
-  going-next {e} l h p q =
+  pub going-next : {e : ℕ} {q : Progress} → at < length bytes → e ≡ min (at + size) (length bytes) → q ≡ onward p i (take (e - at) (drop at bytes))
+      → Going w bytes out size q (i + 1) e
+  going-next {e} l h n =
       let here : at ≡ size * i = omega (arith, g .begins) in
       let next : size * (i + 1) ≡ size * i + size = ap (λ (n : ℕ). size * n) (add-one i) ∙ mul-suc size i in
-      let rec : take (e - at) (drop at bytes) ≡ driveRecord (sizeFor b) bytes i = rw here (record-here size bytes least i e (omega arith) (omega arith)) ∙ ap (λ (n : ℕ). driveRecord n bytes i) (g .sized) in
-      let same : onward d buffer i (take (e - at) (drop at bytes)) ≡ progressAfter b bytes out (i + 1) = (λ j. onward (g .done j) (g .written j) i (rec j)) ∙ sym (run-next b bytes out i) in
+      let rec : take (e - at) (drop at bytes) ≡ driveRecord (sizeFor w) bytes i = rw here (record-here size bytes least i e (omega arith) (omega arith)) ∙ ap (λ (n : ℕ). driveRecord n bytes i) (g .sized) in
       record {
         sized = g .sized;
         begins = omega (arith, least);
         begun = omega (arith, least);
-        done = p ∙ ap (λ (r : Progress). r .done) same;
-        written = q ∙ ap (λ (r : Progress). r .buffer) same;
+        so-far = n ∙ (λ j. onward (g .so-far j) i (rec j)) ∙ sym (run-next w bytes out i);
       }
 
-  pub going-end : length bytes ≤ at → (d ≡ replayOf b bytes out .done) × (buffer ≡ replayOf b bytes out .buffer)
+  pub going-end : length bytes ≤ at → p ≡ replayOf w bytes out
   going-end h =
-      let n : i ≡ recordsIn (sizeFor b) bytes = all-passed size bytes least i (omega (arith, g .begins)) (g .begun) ∙ ap (λ (n : ℕ). recordsIn n bytes) (g .sized) in
-      (g .done ∙ ap (λ (k : ℕ). progressAfter b bytes out k .done) n, g .written ∙ ap (λ (k : ℕ). progressAfter b bytes out k .buffer) n)
+      let n : i ≡ recordsIn (sizeFor w) bytes = all-passed size bytes least i (omega (arith, g .begins)) (g .begun) ∙ ap (λ (n : ℕ). recordsIn n bytes) (g .sized) in
+      g .so-far ∙ ap (progressAfter w bytes out) n

@@ -1,22 +1,24 @@
--- Many scans of a bank, each on the bank that the one before handed back, and on what is left of one event buffer.
+-- Many scans of a bank, each on the words as the one before left them, and on what is left of one event buffer.
 use Prim.Native.Nat.{ℕ, zero, suc, _+_, _-_, _*_, _/_}
 use mathlib.Core.List.{List, _++_}
 use mathlib.Core.Bool.{cond}
 use lib.Dec.{eqb}
 use lib.ListN.{length, take, drop}
-use Rattle.settings.specs.declared.types.Settings.{Settings}
-use Rattle.alarm.specs.declared.state.State.{State}
+use Rattle.settings.specs.declared.reply.Reply.{Reply}
+use Rattle.settings.specs.declared.reply.Reply.the-variants.{Accepted, Refused as RefusedBy}
+use Rattle.layout.specs.Internal.Block.{digitalIn, analogIn}
 use Rattle.scan_record.specs.Internal.Size.{lengthOf}
-use Rattle.scan_parts.specs.declared.parts.Answer.{Answer}
-use Rattle.scan_parts.specs.declared.parts.Answer.the-variants.{Events, Refused}
-use Rattle.bank.specs.Internal.Scan.{scanOf, eventBuffer}
-use Rattle.bank.specs.declared.bank.Bank.{Bank}
+use Rattle.bank.specs.Internal.Scan.{onReply}
+use Rattle.bank.specs.Lent.{Words}
+use Rattle.bank.specs.Internal.Words.{fitOf, answerOf, scannedWords, bufferOf}
+use Rattle.bank.specs.declared.answer.Answer.{Answer}
+use Rattle.bank.specs.declared.answer.Answer.the-variants.{Events, Refused}
 use Rattle.replay.specs.declared.replay.Replayed.{Replayed}
 use Rattle.replay.specs.declared.replay.Tally.{Tally}
 
 -- the length of a bank's records
-abbrev pub sizeFor : Bank → ℕ
-sizeFor b = lengthOf (b .settings .digital) (b .settings .analog)
+abbrev pub sizeFor : Words → ℕ
+sizeFor w = lengthOf (digitalIn (w .settings)) (analogIn (w .settings))
 
 -- the record with an index, from 0; the last one may be shorter
 abbrev pub driveRecord : ℕ → List ℕ → ℕ → List ℕ
@@ -42,53 +44,53 @@ counted t (Refused r) i =
       index = cond (eqb (t .refused) 0) i (t .index);
     }
 
--- a bank, and how its records were answered
-abbrev pub withBank : Bank → Tally → Replayed
-withBank b t = record { bank = b; events = t .events; refused = t .refused; number = t .number; place = t .place; index = t .index }
-
-abbrev pub tallyOf : Replayed → Tally
-tallyOf d = record { events = d .events; refused = d .refused; number = d .number; place = d .place; index = d .index }
-
--- a bank from its parts
-abbrev pub bankIn : Settings → ℕ → List State → List ℕ → Bank
-bankIn settings time states marks = record { settings = settings; time = time; states = states; marks = marks }
-
-abbrev pub start : Bank → Replayed
-start b = withBank b noneYet
-
--- after a scan of the record with index i that handed back bank b
-abbrev pub byAnswer : Replayed → ℕ → Bank → Answer → Replayed
-byAnswer d i b a = withBank b (counted (tallyOf d) a i)
-
--- what is known after some records, and the event buffer then
+-- after some records: the words, how the records were answered, and the event buffer
 pub record Progress : Type 0 where
-  pub done : Replayed
+  pub words : Words
+  pub tally : Tally
   pub buffer : List ℕ
 
 -- the part of the buffer with the events so far
-abbrev pub usedOf : Replayed → List ℕ → List ℕ
-usedOf d buffer = take (16 * d .events) buffer
+abbrev pub usedOf : Progress → List ℕ
+usedOf p = take (16 * p .tally .events) (p .buffer)
 
 -- what is left of it
-abbrev pub leftOf : Replayed → List ℕ → List ℕ
-leftOf d buffer = drop (16 * d .events) buffer
+abbrev pub leftOf : Progress → List ℕ
+leftOf p = drop (16 * p .tally .events) (p .buffer)
 
 -- one more record, with index i: a scan that is lent what is left of the buffer
-unfoldable pub onward : Replayed → List ℕ → ℕ → List ℕ → Progress
-onward d buffer i rec =
-    let s = scanOf (d .bank) rec (length (leftOf d buffer)) in
+unfoldable pub onward : Progress → ℕ → List ℕ → Progress
+onward p i rec =
     record {
-      done = byAnswer d i (s .bank) (s .answer);
-      buffer = usedOf d buffer ++ eventBuffer (d .bank) rec (leftOf d buffer);
+      words = scannedWords (p .words) rec (length (leftOf p));
+      tally = counted (p .tally) (answerOf (p .words) rec (length (leftOf p))) i;
+      buffer = usedOf p ++ bufferOf (p .words) rec (leftOf p);
     }
 
 -- after the first n records
-unfoldable pub progressAfter : Bank → List ℕ → List ℕ → ℕ → Progress
-progressAfter b bytes out zero = record { done = start b; buffer = out }
-progressAfter b bytes out (suc n) =
-    let r = progressAfter b bytes out n in
-    onward (r .done) (r .buffer) n (driveRecord (sizeFor b) bytes n)
+unfoldable pub progressAfter : Words → List ℕ → List ℕ → ℕ → Progress
+progressAfter w bytes out zero = record { words = w; tally = noneYet; buffer = out }
+progressAfter w bytes out (suc n) = onward (progressAfter w bytes out n) n (driveRecord (sizeFor w) bytes n)
 
 -- after all of them
-abbrev pub replayOf : Bank → List ℕ → List ℕ → Progress
-replayOf b bytes out = progressAfter b bytes out (recordsIn (sizeFor b) bytes)
+abbrev pub replayOf : Words → List ℕ → List ℕ → Progress
+replayOf w bytes out = progressAfter w bytes out (recordsIn (sizeFor w) bytes)
+
+-- ---- a replay, whatever the words are
+
+-- a reply, and how the records were answered
+abbrev pub replied : Reply → Tally → Replayed
+replied reply t =
+    record { reply = reply; events = t .events; refused = t .refused; number = t .number; place = t .place; index = t .index }
+
+-- what is answered; words that are no bank are refused, and no record is looked at
+unfoldable pub replayedOf : Words → List ℕ → List ℕ → Replayed
+replayedOf w bytes out = onReply (fitOf w) (replied Accepted (replayOf w bytes out .tally)) (λ r. replied (RefusedBy r) noneYet)
+
+-- the words after it
+unfoldable pub replayedWords : Words → List ℕ → List ℕ → Words
+replayedWords w bytes out = onReply (fitOf w) (replayOf w bytes out .words) (λ r. w)
+
+-- the lent event buffer after it
+unfoldable pub replayedBuffer : Words → List ℕ → List ℕ → List ℕ
+replayedBuffer w bytes out = onReply (fitOf w) (replayOf w bytes out .buffer) (λ r. out)

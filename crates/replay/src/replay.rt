@@ -1,22 +1,19 @@
-// Scan records one after the other, on one bank and one event buffer.
+// Scan records one after the other, on the words of one bank and one event buffer.
 ghost use mathlib.Core.Path.{_≡_};
 ghost use Prim.Native.Nat.{_+_, _^_, _≤_, _<_, min};
-ghost use Rattle.replay.specs.Replay.{noneYet, counted, bankIn, withBank, replayOf};
-use alarm::state::State;
-use bank::bank::Bank;
-use scan_parts::parts::Answer;
-use scan_parts::parts::finish;
-use scan_parts::parts::states_after;
-use scan_parts::parts::step_checked;
-use scan_parts::parts::time_after;
-use scan_parts::parts::time_in;
-use scan_record::check::check_record;
+ghost use lib.ListN.{length};
+ghost use Rattle.bank.specs.Internal.Words.{wordsIn};
+ghost use Rattle.replay.specs.Replay.{noneYet, counted, replied, replayOf, replayedOf, replayedWords, replayedBuffer};
+use bank::answer::Answer;
+use bank::fit::fit;
+use bank::scan::scan;
 use scan_record::check::record_length;
 use settings::reply::Refusal;
-use settings::types::Settings;
+use settings::reply::Reply;
 
 pub struct Replayed {
-    pub bank: Bank,
+    // a refusal of words that are no bank
+    pub reply: Reply,
     // how many events were written
     pub events: usize,
     // how many records were refused
@@ -27,7 +24,7 @@ pub struct Replayed {
     pub index: usize,
 }
 
-// How the records so far were answered: what `Replayed` has beside the bank.
+// How the records so far were answered: what `Replayed` has beside the reply.
 pub struct Tally {
     pub events: usize,
     pub refused: usize,
@@ -100,24 +97,12 @@ pub fn count_answer(done: Tally, answer: Answer, index: usize) -> Tally
     }
 }
 
-// The bank put together again, and the tally.
-fn with_bank(
-    settings: Settings,
-    time: u64,
-    states: [State; 24],
-    marks: [u64; 600],
-    done: Tally,
-) -> Replayed
-    ensures { λ r. ⌜ r ≡ withBank (bankIn settings time states marks) done ⌝ }
+// The reply and the tally in one.
+fn with_reply(reply: Reply, done: Tally) -> Replayed
+    ensures { λ r. ⌜ r ≡ replied reply done ⌝ }
 {
-    let bank = Bank {
-        settings,
-        time,
-        states,
-        marks,
-    };
     Replayed {
-        bank,
+        reply,
         events: done.events,
         refused: done.refused,
         number: done.number,
@@ -126,50 +111,56 @@ fn with_bank(
     }
 }
 
-// Runs each record of `bytes` as a scan of its own, and passes over those that are refused. The bank goes in parts, so that a
-// scan copies only the states.
+// Runs each record of `bytes` as a scan of its own, and passes over those that are refused.
 fn run(
-    settings: Settings,
-    mut time: u64,
-    mut states: [State; 24],
-    mut marks: [u64; 600],
+    settings: &[u64],
+    states: &mut [u64],
+    marks: &mut [u64],
     bytes: &[u8],
     out: &mut [u8],
-) -> Replayed
-    ensures { λ r. ⌜ r ≡ replayOf (bankIn settings time states marks) (now (bytes .entry)) (now (out .entry)) .done ⌝ }
-    ensures { λ _. ⌜ now (out .exit) ≡ replayOf (bankIn settings time states marks) (now (bytes .entry)) (now (out .entry)) .buffer ⌝ }
+) -> Tally
+    requires { ⌜ (length (now settings) ≡ 292) × (length (now states) ≡ 580) × (length (now marks) ≡ 900) ⌝ }
+    ensures { λ r. ⌜ r ≡ replayOf (wordsIn (now (settings .entry)) (now (states .entry)) (now (marks .entry))) (now (bytes .entry)) (now (out .entry)) .tally ⌝ }
+    ensures { λ _. ⌜ now (states .exit) ≡ replayOf (wordsIn (now (settings .entry)) (now (states .entry)) (now (marks .entry))) (now (bytes .entry)) (now (out .entry)) .words .states ⌝ }
+    ensures { λ _. ⌜ now (marks .exit) ≡ replayOf (wordsIn (now (settings .entry)) (now (states .entry)) (now (marks .entry))) (now (bytes .entry)) (now (out .entry)) .words .marks ⌝ }
+    ensures { λ _. ⌜ now (out .exit) ≡ replayOf (wordsIn (now (settings .entry)) (now (states .entry)) (now (marks .entry))) (now (bytes .entry)) (now (out .entry)) .buffer ⌝ }
 {
-    let size = record_length(settings.digital, settings.analog);
+    let size = record_length(settings[1] as usize, settings[2] as usize);
     let mut done = none_yet();
     let mut index = 0;
     let mut at = 0;
     while at < bytes.len() {
         let end = end_of(at, size, bytes.len());
         let rec = &bytes[at..end];
-        let reply = check_record(rec, settings.digital, settings.analog, time);
-        let stamp = time_in(rec, time);
-        let mut events = [0; 24];
-        let next = step_checked(reply, rec, settings, states, &mut events, stamp);
         let used = 16 * done.events;
         let left = &mut out[used..];
-        let answer = finish(reply, left, &mut marks, settings, next, events, stamp);
-        let moved = states_after(answer, next, states);
-        states = moved;
-        time = time_after(answer, stamp, time);
+        let answer = scan(settings, states, marks, rec, left);
         done = count_answer(done, answer, index);
         index += 1;
         at = end;
     }
-    with_bank(settings, time, states, marks, done)
+    done
 }
 
-// Runs the records of `bytes` on a bank.
-pub fn replay(bank: Bank, bytes: &[u8], out: &mut [u8]) -> Replayed
-    ensures { λ r. ⌜ r ≡ replayOf bank (now (bytes .entry)) (now (out .entry)) .done ⌝ }
-    ensures { λ _. ⌜ now (out .exit) ≡ replayOf bank (now (bytes .entry)) (now (out .entry)) .buffer ⌝ }
+// Runs the records of `bytes` on the bank in these words; words that are no bank are refused and left as they are.
+pub fn replay(
+    settings: &[u64],
+    states: &mut [u64],
+    marks: &mut [u64],
+    bytes: &[u8],
+    out: &mut [u8],
+) -> Replayed
+    ensures { λ r. ⌜ r ≡ replayedOf (wordsIn (now (settings .entry)) (now (states .entry)) (now (marks .entry))) (now (bytes .entry)) (now (out .entry)) ⌝ }
+    ensures { λ _. ⌜ now (states .exit) ≡ replayedWords (wordsIn (now (settings .entry)) (now (states .entry)) (now (marks .entry))) (now (bytes .entry)) (now (out .entry)) .states ⌝ }
+    ensures { λ _. ⌜ now (marks .exit) ≡ replayedWords (wordsIn (now (settings .entry)) (now (states .entry)) (now (marks .entry))) (now (bytes .entry)) (now (out .entry)) .marks ⌝ }
+    ensures { λ _. ⌜ now (out .exit) ≡ replayedBuffer (wordsIn (now (settings .entry)) (now (states .entry)) (now (marks .entry))) (now (bytes .entry)) (now (out .entry)) ⌝ }
 {
-    let settings = bank.settings;
-    let states = bank.states;
-    let marks = bank.marks;
-    run(settings, bank.time, states, marks, bytes, out)
+    let reply = fit(settings, states, marks);
+    match reply {
+        Reply::Accepted => {
+            let done = run(settings, states, marks, bytes, out);
+            with_reply(reply, done)
+        }
+        Reply::Refused(_) => with_reply(reply, none_yet()),
+    }
 }

@@ -4,6 +4,7 @@ use mathlib.Core.List.{List}
 use lib.ListN.{replicate}
 use Rattle.wire.specs.Real.{zeroReal}
 use Rattle.settings.specs.Refusals.{noSuchAlarm}
+use Rattle.settings.specs.declared.reply.Refusal.{Refusal}
 use Rattle.settings.specs.declared.reply.Reply.the-variants.{Refused}
 use Rattle.report.specs.declared.status.Status.{Status}
 use Rattle.report.specs.declared.whole.Whole.{Whole}
@@ -20,5 +21,10 @@ noStatuses = replicate 6 noStatus
 abbrev pub noWhole : Whole
 noWhole = record { enabled = false; suppressed = false; infaulted = false; severityinv = false; rate = zeroReal; high = 0; low = 0 }
 
+-- a report that was refused
+unfoldable pub refusedReport : Refusal → AlarmReport
+refusedReport r = record { reply = Refused r; alarm = noWhole; resettime = 0; conditions = noStatuses }
+
+-- there is no such alarm
 unfoldable pub noReport : AlarmReport
-noReport = record { reply = Refused noSuchAlarm; alarm = noWhole; resettime = 0; conditions = noStatuses }
+noReport = refusedReport noSuchAlarm

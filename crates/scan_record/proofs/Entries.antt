@@ -19,7 +19,8 @@ use Rattle.settings.specs.declared.reply.Reply.the-variants.{Accepted, Refused 
 use Rattle.settings.specs.declared.types.Reading.{Reading}
 use Rattle.scan_record.specs.Entry.{digitalWord, analogWord, digitalEntry, analogEntry, entryAt}
 use Rattle.scan_record.specs.Internal.Size.{entrySize}
-use Rattle.scan_record.specs.Part.{formAt, recordSize, timeOf, offsetOf, readingAt, wordAt}
+use Rattle.scan_record.specs.Part.{recordSize, timeOf, offsetOf, readingAt, wordAt}
+use Rattle.settings.specs.Alarm.{formAt}
 use Rattle.scan_record.specs.Check.{checkFrom, whole, checkRecord}
 use Rattle.scan_record.specs.declared.entry.Entry.the-variants.{Read, Refused}
 use Rattle.scan_record.specs.declared.entry.Entry.{Entry}

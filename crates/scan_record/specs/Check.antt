@@ -9,7 +9,8 @@ use Rattle.settings.specs.declared.reply.Refusal.{Refusal}
 use Rattle.settings.specs.declared.reply.Reply.{Reply}
 use Rattle.settings.specs.declared.reply.Reply.the-variants.{Accepted, Refused as RefusedBy}
 use Rattle.settings.specs.declared.types.Reading.{Reading}
-use Rattle.scan_record.specs.Part.{timeOf, formAt, recordSize}
+use Rattle.scan_record.specs.Part.{timeOf, recordSize}
+use Rattle.settings.specs.Alarm.{formAt}
 use Rattle.scan_record.specs.Entry.{entryAt}
 use Rattle.scan_record.specs.declared.entry.Entry.{Entry}
 use Rattle.scan_record.specs.declared.entry.Entry.the-variants.{Read, Refused}

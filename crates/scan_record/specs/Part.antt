@@ -1,8 +1,7 @@
 -- A scan record: the time, then for each alarm in number order its reading and a command word.
 use Prim.Native.Nat.{ℕ, _+_, _*_, _-_, min}
 use mathlib.Core.List.{List}
-use mathlib.Core.Bool.{cond}
-use lib.Dec.{ltb, eqb}
+use lib.Dec.{eqb}
 use lib.ListN.{getD}
 use Rattle.wire.specs.Number.{number}
 use Rattle.wire.specs.Real.{realAt}
@@ -14,10 +13,6 @@ use Rattle.settings.specs.declared.types.Reading.the-variants.{Digital as Bit, 
 -- the scan's time stands first, in 8 bytes
 abbrev pub timeOf : List ℕ → ℕ
 timeOf rec = number rec 0 8
-
--- the digital alarms come first
-abbrev pub formAt : ℕ → ℕ → Form
-formAt digital place = cond (ltb place digital) Digital Analog
 
 -- an alarm's part: a digital bit in one byte or a REAL in four, then the command word in four
 abbrev pub readingAt : Form → List ℕ → ℕ → Reading

@@ -2,7 +2,8 @@
 ghost use mathlib.Core.Path.{_≡_};
 ghost use Prim.Native.Nat.{_+_, _≤_};
 ghost use lib.ListN.{length};
-ghost use Rattle.scan_record.specs.Part.{formAt, recordSize};
+ghost use Rattle.scan_record.specs.Part.{recordSize};
+ghost use Rattle.settings.specs.Alarm.{formAt};
 ghost use Rattle.scan_record.specs.Internal.Size.{lengthOf};
 ghost use Rattle.scan_record.specs.Check.{checkFrom, whole, checkRecord};
 use crate::entry::Entry;

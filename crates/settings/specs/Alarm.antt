@@ -1,7 +1,8 @@
 -- The settings of an alarm, and settings without alarms.
 use Prim.Native.Nat.{ℕ}
-use mathlib.Core.Bool.{Bool}
+use mathlib.Core.Bool.{Bool, cond}
 use mathlib.Core.List.{List}
+use lib.Dec.{ltb}
 use lib.ListN.{replicate}
 use Rattle.wire.specs.Real.{zeroReal}
 use Rattle.wire.specs.Bits.{bit}
@@ -9,6 +10,8 @@ use Rattle.settings.specs.declared.types.Alarm.{Alarm}
 use Rattle.settings.specs.declared.types.Limits.{Limits}
 use Rattle.settings.specs.declared.types.Kind.{Kind}
 use Rattle.settings.specs.declared.types.Kind.the-variants.{Digital, Analog}
+use Rattle.settings.specs.declared.types.Form.{Form}
+use Rattle.settings.specs.declared.types.Form.the-variants.{Digital as DigitalForm, Analog as AnalogForm}
 use Rattle.settings.specs.declared.types.Settings.{Settings}
 
 -- the flags of a digital alarm: bit 0 Condition, 1 AckRequired, 2 Latched
@@ -55,3 +58,7 @@ blanks = replicate 24 blank
 -- a bank without alarms
 unfoldable pub empty : Settings
 empty = record { digital = 0; analog = 0; alarms = blanks }
+
+-- the form of the alarm at a place: the digital alarms come first
+abbrev pub formAt : ℕ → ℕ → Form
+formAt digital place = cond (ltb place digital) DigitalForm AnalogForm

@@ -37,3 +37,6 @@ pub const EVENTS_TOO_LONG: u32 = 12;
 pub const IMAGE_TOO_LONG: u32 = 13;
 
 pub const NO_SUCH_ALARM: u32 = 14;
+
+// Lent blocks that hold no bank; which block: 0 settings, 1 states, 2 counts and stamps.
+pub const NO_BANK: u32 = 42;

@@ -1,26 +1,24 @@
-//! Whether the archive gives what the rival gives: return code, every answer word, and every byte lent. Of scans by value:
-//! the number of events, and every byte of their buffer.
+//! Whether all contenders give what the plain rival gives: every byte of every event, and every alarm's report after each list.
 
-use crate::contenders::{rival, Contender, ANSWER_EVENTS, ARCHIVE};
-use crate::load::{Lent, Load};
+use crate::contenders::{Contender, Outcome, CONTENDERS, PLAIN};
+use crate::load::Load;
+use crate::meifgur;
 
-/// Holds each call of the archives to the rival on every list; the first difference in words.
+/// Holds each contender to the plain rival on every list; the first difference in words.
 pub fn check(load: &Load) -> Result<(), String> {
-    if !load.same_record_len() {
+    let shape = load.spec.shape;
+    if meifgur::record_length(shape.digital, shape.analog) != load.record_len() {
         return Err(format!("{}: records of another length", load.spec));
     }
     for (n, list) in load.lists().enumerate() {
-        let mut theirs = load.lend();
-        let code = load.run(rival, list, &mut theirs);
-        // All records accepted, and no more room for events needed than was counted.
-        assert_eq!(theirs.answer[2..4], [load.events(n) as u64, 0]);
-        for contender in ARCHIVE {
-            let mut ours = load.lend();
-            let our_code = load.run(contender.call, list, &mut ours);
-            if let Some(what) = difference(contender, (our_code, &ours), (code, &theirs)) {
+        let of = |contender: &Contender| (contender.outcome)(load, list);
+        let plain = CONTENDERS.iter().find(|contender| contender.name == PLAIN);
+        let plain = plain.map(of).expect("it is one of them");
+        for contender in CONTENDERS {
+            if let Some(what) = difference(&of(contender), &plain) {
                 let (spec, name) = (load.spec, contender.name);
                 return Err(format!(
-                    "{spec}, list {n}: {name} and rival give different {what}"
+                    "{spec}, list {n}: {name} and {PLAIN} give different {what}"
                 ));
             }
         }
@@ -28,35 +26,18 @@ pub fn check(load: &Load) -> Result<(), String> {
     Ok(())
 }
 
-fn difference(
-    contender: &Contender,
-    (our_code, ours): (u32, &Lent),
-    (code, theirs): (u32, &Lent),
-) -> Option<String> {
-    if our_code != code {
-        return Some(format!("return codes, {our_code} and {code}"));
-    }
-    let words = if contender.reports {
-        0..theirs.answer.len()
-    } else {
-        ANSWER_EVENTS..ANSWER_EVENTS + 1
-    };
-    let (our_words, words) = (&ours.answer[words.clone()], &theirs.answer[words]);
-    if our_words != words {
-        return Some(format!("answers, {our_words:?} and {words:?}"));
-    }
+fn difference(ours: &Outcome, plain: &Outcome) -> Option<String> {
     let at = |what: &str, at: usize| format!("{what}, first at byte {at}");
-    if let Some(byte) = first_other(&ours.events, &theirs.events) {
+    if let Some(byte) = first_other(&ours.events, &plain.events) {
         return Some(at("events", byte));
     }
-    if !contender.reports {
-        return None;
-    }
-    first_other(&ours.reports, &theirs.reports).map(|byte| at("reports", byte))
+    first_other(&ours.reports, &plain.reports).map(|byte| at("reports", byte))
 }
 
-/// Where two buffers of one length differ first.
+/// Where two buffers differ first; where one ends, if the other goes on.
 fn first_other(ours: &[u8], theirs: &[u8]) -> Option<usize> {
     let mut pairs = ours.iter().zip(theirs);
-    pairs.position(|(ours, theirs)| ours != theirs)
+    let other = pairs.position(|(ours, theirs)| ours != theirs);
+    let ends = (ours.len() != theirs.len()).then_some(ours.len().min(theirs.len()));
+    other.or(ends)
 }

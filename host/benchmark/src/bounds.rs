@@ -1,25 +1,25 @@
-//! Whether the archives' calls keep within their bounds.
+//! Whether the archive's scan keeps within its bounds.
 
-use crate::contenders::{Contender, ARCHIVE, RIVAL};
+use crate::contenders::{QUICK, SCAN};
 use crate::results::Results;
 use crate::timing::Point;
 
-/// A line for each drive on which a call of an archive takes more than its bound.
+/// What a scan may take at most, as a multiple of the quick rival's time: of a full bank, and of a bank with one alarm.
+pub const FULL_MOST: f64 = 1.3;
+pub const SINGLE_MOST: f64 = 1.6;
+
+/// A line for each drive on which a scan takes more than its bound.
 pub fn above(results: &Results) -> Vec<String> {
-    let mut lines = Vec::new();
-    for point in results.drives() {
-        for (n, contender) in ARCHIVE.iter().enumerate() {
-            if point.ratio(n) > contender.most {
-                lines.push(line(point, n));
-            }
-        }
-    }
-    lines
+    let full = results.drives().into_iter().map(|point| (point, FULL_MOST));
+    let single = results.singles().into_iter();
+    let single = single.map(|point| (point, SINGLE_MOST));
+    let all = full.chain(single);
+    let above = all.filter(|(point, most)| point.ratio(SCAN, QUICK) > *most);
+    above.map(|(point, most)| line(point, most)).collect()
 }
 
-fn line(point: &Point, contender: usize) -> String {
-    let drive = point.spec.drive.name();
-    let ratio = point.ratio(contender);
-    let Contender { name, most, .. } = ARCHIVE[contender];
-    format!("{drive}: {name} takes {ratio:.2} times the {RIVAL}'s time, at most {most} is allowed")
+fn line(point: &Point, most: f64) -> String {
+    let ratio = point.ratio(SCAN, QUICK);
+    let spec = point.spec;
+    format!("{spec}: {SCAN} takes {ratio:.2} times {QUICK}'s time, at most {most} is allowed")
 }

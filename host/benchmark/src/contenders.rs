@@ -1,86 +1,152 @@
-//! Who is timed: calls of the proved archives, and the rival that they are held to.
+//! Who is timed: calls of the proved archive, and the rivals.
 
-use crate::{by_value, meifgur};
-use second_opinion::{Bank, Refusal, REPORT_LEN};
-
-/// What the archive's replay may take at most, as a multiple of the rival's time.
-const REPLAY_MOST: f64 = 1.7;
-/// The same for scans that hand the bank over by value.
-const BY_VALUE_MOST: f64 = 2.2;
-
-/// A call with the buffers of `meifgur_replay`: image, records, events, reports, answer.
-pub type Replay = fn(&[u8], &[u8], &mut [u8], &mut [u8], &mut [u64]) -> u32;
+use crate::live::Live;
+use crate::load::Load;
+use crate::meifgur;
+use second_opinion::{packed, quick, Bank, EVENTS_ENOUGH, EVENT_LEN};
+use std::hint::black_box;
+use std::time::{Duration, Instant};
 
 pub struct Contender {
     pub name: &'static str,
-    pub most: f64,
-    /// Whether it reports each alarm and fills the answer; else it gives the events and their number alone.
-    pub reports: bool,
-    pub call: Replay,
+    pub about: &'static str,
+    pub proved: bool,
+    /// In the chart; all are told apart by the colour-blind too.
+    pub colour: &'static str,
+    /// The time of all scans of a load, with a buffer that suffices. Each list has a bank of its own, loaded before it.
+    pub round: fn(&Load, &mut [u8]) -> Duration,
+    pub outcome: fn(&Load, &[u8]) -> Outcome,
 }
 
-/// The archives' calls, a line each.
-#[rustfmt::skip]
-pub const ARCHIVE: &[Contender] = &[
-    Contender { name: "replay", most: REPLAY_MOST, reports: true, call: meifgur::replay_words },
-    Contender { name: "by-value scan", most: BY_VALUE_MOST, reports: false, call: scan_each },
+/// What a list of records came to.
+#[derive(PartialEq, Eq)]
+pub struct Outcome {
+    pub events: Vec<u8>,
+    pub reports: Vec<u8>,
+}
+
+pub const SCAN: &str = "scan";
+pub const PLAIN: &str = "plain";
+pub const QUICK: &str = "quick";
+
+pub const CONTENDERS: &[Contender] = &[
+    Contender {
+        name: SCAN,
+        about: "proved",
+        proved: true,
+        colour: "#1b5e9e",
+        round: round::<meifgur::Bank>,
+        outcome: outcome::<meifgur::Bank>,
+    },
+    #[cfg(feature = "replay")]
+    Contender {
+        name: "replay",
+        about: "proved",
+        proved: true,
+        colour: "#6fb1e0",
+        round: replay::round,
+        outcome: replay::outcome,
+    },
+    Contender {
+        name: QUICK,
+        about: "Rust, by alarm",
+        proved: false,
+        colour: "#8c2d04",
+        round: round::<quick::Bank>,
+        outcome: outcome::<quick::Bank>,
+    },
+    Contender {
+        name: "packed",
+        about: "Rust, by bits",
+        proved: false,
+        colour: "#9a9a9a",
+        round: round::<packed::Bank>,
+        outcome: outcome::<packed::Bank>,
+    },
+    Contender {
+        name: PLAIN,
+        about: "plain Rust",
+        proved: false,
+        colour: "#e08a1e",
+        round: round::<Bank>,
+        outcome: outcome::<Bank>,
+    },
 ];
 
-/// What the table calls the second opinion.
-pub const RIVAL: &str = "rival";
-
-/// Return codes and answer words, as the header has them.
-const ANSWER_SHORT: u32 = 40;
-const REPORTS_SHORT: u32 = 41;
-pub const ANSWER_WORDS: usize = 8;
-pub const ANSWER_EVENTS: usize = 2;
-
-/// The scans by value, with the number of events where a replay's answer has it.
-fn scan_each(
-    image: &[u8],
-    records: &[u8],
-    events: &mut [u8],
-    _reports: &mut [u8],
-    answer: &mut [u64],
-) -> u32 {
-    answer[ANSWER_EVENTS] = by_value::scan_each(image, records, events);
-    0
+pub fn proved() -> impl Iterator<Item = &'static Contender> {
+    CONTENDERS.iter().filter(|contender| contender.proved)
 }
 
-/// All that `meifgur_replay` does, from the image's bytes to the last report, by the second opinion.
-pub fn rival(
-    image: &[u8],
-    records: &[u8],
-    events: &mut [u8],
-    reports: &mut [u8],
-    answer: &mut [u64],
-) -> u32 {
-    let Some(answer) = answer.first_chunk_mut::<ANSWER_WORDS>() else {
-        return ANSWER_SHORT;
-    };
-    let mut bank = match Bank::read(image) {
-        Ok(bank) => bank,
-        Err(Refusal { number, place }) => {
-            *answer = [number.into(), place, 0, 0, 0, 0, 0, 0];
-            return number;
+pub fn rivals() -> impl Iterator<Item = &'static Contender> {
+    CONTENDERS.iter().filter(|contender| !contender.proved)
+}
+
+/// Record by record. The black boxes in the loop take one word each: one that takes a slice writes its two words and has
+/// them read as one where the next call wants them in memory, which makes that call wait.
+fn round<B: Live>(load: &Load, buffer: &mut [u8]) -> Duration {
+    let buffer: &mut [u8; EVENTS_ENOUGH] = buffer.first_chunk_mut().expect("it suffices");
+    let mut time = Duration::ZERO;
+    for list in load.lists() {
+        let mut bank = B::loaded(&load.image);
+        let records = black_box(list).chunks(load.record_len());
+        let start = Instant::now();
+        for record in records {
+            let events = black_box(&mut *buffer);
+            black_box(bank.step(record, events));
         }
-    };
-    let alarms = bank.alarms();
-    let Some(reports) = reports.get_mut(..REPORT_LEN * alarms) else {
-        return REPORTS_SHORT;
-    };
-    let done = bank.replay(records, events);
-    bank.report_bytes(reports);
-    let first = [done.number.into(), done.place, done.index];
-    *answer = [
-        0,
-        0,
-        done.events,
-        done.refused,
-        first[0],
-        first[1],
-        first[2],
-        alarms as u64,
-    ];
-    0
+        time += start.elapsed();
+        black_box(&bank);
+    }
+    time
+}
+
+fn outcome<B: Live>(load: &Load, list: &[u8]) -> Outcome {
+    let mut bank = B::loaded(&load.image);
+    let mut buffer = [0; EVENTS_ENOUGH];
+    let mut events = Vec::new();
+    for record in list.chunks(load.record_len()) {
+        let count = bank.step(record, &mut buffer);
+        events.extend_from_slice(&buffer[..EVENT_LEN * count]);
+    }
+    let reports = reports(load, &bank);
+    Outcome { events, reports }
+}
+
+/// Of every alarm.
+fn reports(load: &Load, bank: &impl Live) -> Vec<u8> {
+    let alarms = 1..=load.spec.shape.alarms();
+    alarms.flat_map(|alarm| bank.tell(alarm)).collect()
+}
+
+/// The archive's replay of a list in one call.
+#[cfg(feature = "replay")]
+mod replay {
+    use super::*;
+
+    pub fn round(load: &Load, buffer: &mut [u8]) -> Duration {
+        let mut time = Duration::ZERO;
+        for list in load.lists() {
+            let mut bank = meifgur::Bank::loaded(&load.image);
+            let start = Instant::now();
+            black_box(run(&mut bank, black_box(list), black_box(&mut *buffer)));
+            time += start.elapsed();
+            black_box(&bank);
+        }
+        time
+    }
+
+    pub fn outcome(load: &Load, list: &[u8]) -> Outcome {
+        let mut bank = meifgur::Bank::loaded(&load.image);
+        let mut events = load.buffer();
+        let count = run(&mut bank, list, &mut events);
+        events.truncate(EVENT_LEN * count);
+        let reports = reports(load, &bank);
+        Outcome { events, reports }
+    }
+
+    fn run(bank: &mut meifgur::Bank, list: &[u8], events: &mut [u8]) -> usize {
+        let replayed = bank.replay(list, events).expect("a bank");
+        assert_eq!(replayed.refused, 0, "records without fault");
+        replayed.events
+    }
 }

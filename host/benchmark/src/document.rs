@@ -1,6 +1,7 @@
 //! The page on speed, and its tables, which are printed too.
 
-use crate::contenders::{ARCHIVE, RIVAL};
+use crate::bounds::{FULL_MOST, SINGLE_MOST};
+use crate::contenders::{QUICK, SCAN};
 use crate::results::Results;
 use crate::spec::{ALARMS, SCANS};
 use crate::table::thousands;
@@ -9,24 +10,23 @@ use std::fs;
 
 pub fn page(results: &Results) -> String {
     let about = ABOUT.replace("ROUNDS", &results.rounds.to_string());
-    let bounds = ARCHIVE.iter().map(|contender| {
-        let (name, most) = (contender.name, contender.most);
-        format!("Bound of {name} / {RIVAL} on each drive: {most}.\n")
-    });
-    let bounds: String = bounds.collect();
+    let bounds = format!(
+        "Bound of {SCAN} / {QUICK} on each drive: {FULL_MOST} with {ALARMS} alarms, {SINGLE_MOST} with one."
+    );
     let processor = processor().unwrap_or("a processor without a name".to_string());
     format!(
-        "# Speed\n\n{about}\n{bounds}Measured on: {processor}.\n\n{CHART}\n\n{}",
+        "# Speed\n\n{about}\n{bounds}\nMeasured on: {processor}.\n\n{CHART}\n\n{}",
         all_tables(results)
     )
 }
 
 const ABOUT: &str = "\
-Each call goes from the bytes of a settings image and of scan records to events and reports. Replay: `meifgur_replay` of the
-proved archive. Rival: the same by the plain Rust of `second_opinion/`. By-value scan: a proved loop (crates/scan_each) that
-hands the bank by value to `scan` and takes it back, record by record; events only, no reports.
-Before any timing all gave the same bytes on every list. A time is the least of ROUNDS rounds in which they take turns on the
-same buffers, allocated and touched beforehand.
+Nanoseconds per scan of a loaded bank, with a buffer for events that always suffices. Scan: a call of `meifgur_scan` of the
+proved archive for each record. Replay, where there is one: a call of `meifgur_replay` for all. The rivals are banks of
+`second_opinion/`, called once a record. Plain: written to be read. Quick: made for speed, alarm by alarm; it passes over an
+alarm that has nothing to do. Packed: made for speed, the conditions of many alarms at once, a bit each.
+Before any timing all gave the same events on every list, and the same reports after it. A time is the least of ROUNDS rounds
+in which they take turns on the same records and buffer, allocated and touched beforehand.
 Quiet: no commands, readings wander inside the limits. Busy: readings wander across the limits, inputs change now and then,
 someone acknowledges. Storm: readings jump across all limits in each scan, every eighth command word has some bits.
 `host/benchmark.sh --write` measures all again and writes this page and its chart; without `--write` it prints the tables.
@@ -34,15 +34,20 @@ someone acknowledges. Storm: readings jump across all limits in each scan, every
 
 const CHART: &str = "![Bars and lines of the times in the tables below](speed.svg)";
 
+const THEN: &str = "\
+Then: the archive before it worked on lent words (commit c7a4cbf), in a run of its own. Its replay went from the image to the
+reports; its by-value scan handed the whole bank over and took it back.
+";
+
 pub fn all_tables(results: &Results) -> String {
-    let (drives, alarms, scans) = (
-        tables::drives(results),
-        tables::alarms(results),
-        tables::scans(results),
-    );
+    let (drives, singles) = (tables::drives(results), tables::singles(results));
+    let (alarms, scans) = (tables::alarms(results), tables::scans(results));
+    let then_and_now = tables::then_and_now(results);
     let usual = thousands(SCANS);
     format!(
         "## The drives: {ALARMS} alarms, {usual} scans\n\n{drives}\n\
+         ## One alarm: {usual} scans\n\n{singles}\n\
+         ## Then and now: {ALARMS} alarms, {usual} scans\n\n{THEN}\n{then_and_now}\n\
          ## More alarms: busy drive, {usual} scans\n\n{alarms}\n\
          ## More scans: busy drive, {ALARMS} alarms\n\n{scans}"
     )

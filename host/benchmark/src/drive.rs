@@ -1,5 +1,6 @@
 //! The drives: scan records, 100 ms apart, whose readings and commands keep the alarms more or less busy.
 
+#[path = "drive/commands.rs"] // found too where another crate takes this file in
 mod commands;
 
 use crate::image::Shape;

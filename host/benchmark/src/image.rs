@@ -9,7 +9,7 @@ const DEADBAND: f32 = 20.0;
 const RATE: f32 = 150.0;
 const PERIOD: u32 = 1000;
 
-#[derive(Clone, Copy)]
+#[derive(Clone, Copy, PartialEq, Eq)]
 pub struct Shape {
     pub digital: usize,
     pub analog: usize,
@@ -22,6 +22,10 @@ impl Shape {
         let analog = alarms - digital;
         assert!(analog <= EACH_MOST, "at most 12 alarms of each kind");
         Shape { digital, analog }
+    }
+
+    pub fn alarms(self) -> usize {
+        self.digital + self.analog
     }
 
     /// Bytes of a scan record.

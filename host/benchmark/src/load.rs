@@ -1,50 +1,43 @@
-//! What the calls get for one drive of one bank, and are lent.
+//! What the contenders get for one drive of one bank.
 
-use crate::by_value;
-use crate::contenders::{Replay, ANSWER_WORDS};
-use crate::image::Shape;
 use crate::spec::{Spec, SCANS};
-use second_opinion::{Bank, EVENTS_ENOUGH, EVENT_LEN, REPORT_LEN};
+use second_opinion::{Bank, EVENTS_ENOUGH, EVENT_LEN};
 
-/// A bank's image and lists of records for it. Short lists are many, each another one, so that a call is not timed on what
+/// A bank's image and lists of records for it. Short lists are many, each another one, so that no call is timed on what
 /// the processor knows by heart.
 pub struct Load {
     pub spec: Spec,
-    image: Vec<u8>,
+    pub image: Vec<u8>,
     /// One list behind the other.
     records: Vec<u8>,
-    /// Bytes of a list.
-    length: usize,
     /// Events of each list.
     events: Vec<usize>,
 }
 
 impl Load {
     pub fn new(spec: Spec) -> Load {
-        let shape = Shape::of(spec.alarms);
         let scans = spec.scans * SCANS.div_ceil(spec.scans);
         let mut load = Load {
             spec,
-            image: shape.image(),
-            records: spec.drive.records(shape, scans),
-            length: spec.scans * shape.record_len(),
+            image: spec.shape.image(),
+            records: spec.drive.records(spec.shape, scans),
             events: Vec::new(),
         };
         load.events = load.lists().map(|list| load.count(list)).collect();
         load
     }
 
+    pub fn record_len(&self) -> usize {
+        self.spec.shape.record_len()
+    }
+
     pub fn lists(&self) -> impl Iterator<Item = &[u8]> {
-        self.records.chunks(self.length)
+        self.records.chunks(self.spec.scans * self.record_len())
     }
 
     /// Scans of all lists.
     pub fn scans(&self) -> usize {
         self.spec.scans * self.events.len()
-    }
-
-    pub fn events(&self, list: usize) -> usize {
-        self.events[list]
     }
 
     pub fn events_per_scan(&self) -> f64 {
@@ -62,37 +55,10 @@ impl Load {
             .sum()
     }
 
-    /// Whether the archive of scans by value has records of the same length.
-    pub fn same_record_len(&self) -> bool {
-        by_value::record_len(&self.image) as usize * self.spec.scans == self.length
-    }
-
-    /// One call, from the image to the reports.
-    pub fn run(&self, call: Replay, list: &[u8], lent: &mut Lent) -> u32 {
-        let Lent {
-            events,
-            reports,
-            answer,
-        } = lent;
-        call(&self.image, list, events, reports, answer)
-    }
-
-    /// Buffers for any of the lists, with some space behind what is written. Every byte is set here, so that all memory is
-    /// there before the first call; never twice the same nearby, so that a byte moved or cleared is seen.
-    pub fn lend(&self) -> Lent {
+    /// A buffer for the events of any of the lists, and of one scan more. Every byte is set here, so that all memory is
+    /// there before the first call.
+    pub fn buffer(&self) -> Vec<u8> {
         let most = self.events.iter().max().map_or(0, |most| EVENT_LEN * most);
-        let bytes = |length: usize| (0..length).map(|at| (at * 29) as u8 ^ 0xA5).collect();
-        Lent {
-            events: bytes(most + EVENTS_ENOUGH),
-            reports: bytes(REPORT_LEN * (self.spec.alarms + 1)),
-            answer: [u64::MAX; ANSWER_WORDS],
-        }
+        vec![0xA5; most + EVENTS_ENOUGH]
     }
-}
-
-/// The buffers that a call fills.
-pub struct Lent {
-    pub events: Vec<u8>,
-    pub reports: Vec<u8>,
-    pub answer: [u64; ANSWER_WORDS],
 }

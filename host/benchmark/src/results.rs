@@ -1,4 +1,4 @@
-//! All points of a run, as three series.
+//! All points of a run, as four series.
 
 use crate::drive::DRIVES;
 use crate::spec::{Spec, ALARM_STEPS, SCAN_STEPS};
@@ -13,6 +13,11 @@ impl Results {
     /// The full bank on each drive.
     pub fn drives(&self) -> Vec<&Point> {
         DRIVES.map(|drive| self.of(Spec::of_drive(drive))).to_vec()
+    }
+
+    /// One alarm of either kind on each drive.
+    pub fn singles(&self) -> Vec<&Point> {
+        Spec::singles().map(|spec| self.of(spec)).collect()
     }
 
     pub fn by_alarms(&self) -> Vec<&Point> {

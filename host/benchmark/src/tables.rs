@@ -1,64 +1,93 @@
-//! The tables of the three series.
+//! The tables of the series.
 
-use crate::contenders::{ARCHIVE, RIVAL};
+use crate::before::before;
+use crate::contenders::{proved, rivals, CONTENDERS, PLAIN};
+use crate::image::Shape;
 use crate::results::Results;
 use crate::table::{table, thousands};
 use crate::timing::Point;
 
 pub fn drives(results: &Results) -> String {
-    let mut heads = heads("drive");
-    heads.extend(each(|name| format!("{name}, million scans/s")));
-    let mut rows = vec![heads];
-    for point in results.drives() {
-        let mut row = row(point.spec.drive.name().to_string(), point);
-        row.extend(point.times().map(|time| format!("{:.2}", 1000.0 / time)));
-        rows.push(row);
-    }
-    table(&rows)
+    let points = results.drives().into_iter();
+    series("drive", points, |point| point.spec.drive.name().to_string())
+}
+
+pub fn singles(results: &Results) -> String {
+    series("alarm, drive", results.singles().into_iter(), single)
 }
 
 pub fn alarms(results: &Results) -> String {
-    let mut rows = vec![heads("alarms")];
     let points = results.by_alarms().into_iter();
-    rows.extend(points.map(|point| row(point.spec.alarms.to_string(), point)));
-    table(&rows)
+    series("alarms", points, |point| {
+        point.spec.shape.alarms().to_string()
+    })
 }
 
 pub fn scans(results: &Results) -> String {
-    let mut heads = heads("scans");
-    heads.extend(each(|name| format!("{name}, ms in all")));
+    let points = results.by_scans().into_iter();
+    series("scans", points, |point| thousands(point.spec.scans))
+}
+
+/// The full bank: times of then and of this run, each with its multiple of the plain rival's in the same run.
+pub fn then_and_now(results: &Results) -> String {
+    let then = ["plain", "replay", "by-value scan"].map(|name| format!("then {name}"));
+    let then_ratios = ["replay", "by-value scan"].map(|name| format!("then {name} / {PLAIN}"));
+    let mut heads = vec!["drive".to_string()];
+    heads.extend(then.into_iter().chain(then_ratios));
+    heads.push(format!("now {PLAIN}"));
+    heads.extend(proved().map(|c| format!("now {}", c.name)));
+    heads.extend(proved().map(|c| format!("now {} / {PLAIN}", c.name)));
     let mut rows = vec![heads];
-    for point in results.by_scans() {
-        let scans = point.spec.scans;
-        let mut row = row(thousands(scans), point);
-        row.extend(
-            point
-                .times()
-                .map(|time| format!("{:.2}", time * scans as f64 / 1e6)),
-        );
+    for point in results.drives() {
+        let drive = point.spec.drive;
+        let then = before(drive);
+        let mut row = vec![drive.name().to_string()];
+        row.extend([then.plain, then.replay, then.by_value].map(time));
+        row.extend([then.replay, then.by_value].map(|time| ratio(time / then.plain)));
+        row.push(time(point.time(PLAIN)));
+        row.extend(proved().map(|c| time(point.time(c.name))));
+        row.extend(proved().map(|c| ratio(point.ratio(c.name, PLAIN))));
         rows.push(row);
     }
     table(&rows)
 }
 
-/// What every table has: events, nanoseconds per scan of each, and ratios.
-fn heads(first: &str) -> Vec<String> {
+/// `digital, quiet`
+pub fn single(point: &Point) -> String {
+    let kind = match point.spec.shape {
+        Shape { analog: 0, .. } => "digital",
+        _ => "analog",
+    };
+    format!("{kind}, {}", point.spec.drive.name())
+}
+
+/// Events, nanoseconds per scan of each contender, and each call of the archive as a multiple of each rival.
+fn series<'a>(
+    first: &str,
+    points: impl Iterator<Item = &'a Point>,
+    label: impl Fn(&Point) -> String,
+) -> String {
     let mut heads = vec![first.to_string(), "events per scan".to_string()];
-    heads.extend(each(|name| format!("{name}, ns per scan")));
-    let ratios = ARCHIVE.iter().map(|c| format!("{} / {RIVAL}", c.name));
-    heads.extend(ratios);
-    heads
+    heads.extend(CONTENDERS.iter().map(|c| format!("{}, ns", c.name)));
+    heads.extend(pairs().map(|(ours, rival)| format!("{ours} / {rival}")));
+    let mut rows = vec![heads];
+    for point in points {
+        let mut row = vec![label(point), format!("{:.2}", point.events_per_scan)];
+        row.extend(point.times.iter().copied().map(time));
+        row.extend(pairs().map(|(ours, rival)| ratio(point.ratio(ours, rival))));
+        rows.push(row);
+    }
+    table(&rows)
 }
 
-fn row(first: String, point: &Point) -> Vec<String> {
-    let mut row = vec![first, format!("{:.2}", point.events_per_scan)];
-    row.extend(point.times().map(|time| format!("{time:.1}")));
-    row.extend((0..ARCHIVE.len()).map(|n| format!("{:.2}", point.ratio(n))));
-    row
+fn pairs() -> impl Iterator<Item = (&'static str, &'static str)> {
+    proved().flat_map(|ours| rivals().map(|rival| (ours.name, rival.name)))
 }
 
-/// One head for each contender, the rival last.
-fn each(head: impl Fn(&str) -> String) -> Vec<String> {
-    let archive = ARCHIVE.iter().map(|contender| contender.name);
-    archive.chain([RIVAL]).map(head).collect()
+fn time(time: f64) -> String {
+    format!("{time:.1}")
+}
+
+fn ratio(ratio: f64) -> String {
+    format!("{ratio:.2}")
 }

@@ -1,18 +1,15 @@
 //! Least times of alternated rounds.
 
-use crate::contenders::{rival, Replay, ARCHIVE};
-use crate::load::{Lent, Load};
+use crate::contenders::CONTENDERS;
+use crate::load::Load;
 use crate::spec::Spec;
-use std::hint::black_box;
-use std::time::Instant;
 
 /// What one load came to.
 pub struct Point {
     pub spec: Spec,
     pub events_per_scan: f64,
-    /// Nanoseconds per scan: of each call of the archives, in the order of their list, and of the rival.
-    pub archive: Vec<f64>,
-    pub rival: f64,
+    /// Nanoseconds per scan of each contender, in the order of their list.
+    pub times: Vec<f64>,
 }
 
 impl Point {
@@ -20,49 +17,39 @@ impl Point {
         Point {
             spec: load.spec,
             events_per_scan: load.events_per_scan(),
-            archive: vec![f64::INFINITY; ARCHIVE.len()],
-            rival: f64::INFINITY,
+            times: vec![f64::INFINITY; CONTENDERS.len()],
         }
     }
 
-    /// Every contender once, on the same buffers.
-    fn measure(&mut self, load: &Load, lent: &mut Lent) {
-        for (contender, least) in ARCHIVE.iter().zip(&mut self.archive) {
-            *least = least.min(per_scan(load, contender.call, lent));
+    /// Every contender once, on the same buffer.
+    fn measure(&mut self, load: &Load, buffer: &mut [u8]) {
+        for (contender, least) in CONTENDERS.iter().zip(&mut self.times) {
+            let time = (contender.round)(load, buffer);
+            *least = least.min(time.as_nanos() as f64 / load.scans() as f64);
         }
-        self.rival = self.rival.min(per_scan(load, rival, lent));
     }
 
-    /// Time of a call of an archive as a multiple of the rival's.
-    pub fn ratio(&self, contender: usize) -> f64 {
-        self.archive[contender] / self.rival
+    /// Nanoseconds per scan of a contender by its name.
+    pub fn time(&self, name: &str) -> f64 {
+        let mut named = CONTENDERS.iter().zip(&self.times);
+        let found = named.find(|(contender, _)| contender.name == name);
+        *found.expect("a contender").1
     }
 
-    /// Of every contender, the rival last.
-    pub fn times(&self) -> impl Iterator<Item = f64> + '_ {
-        self.archive.iter().copied().chain([self.rival])
+    /// One's time as a multiple of another's.
+    pub fn ratio(&self, one: &str, other: &str) -> f64 {
+        self.time(one) / self.time(other)
     }
 }
 
 /// A round goes through all loads, so that what disturbs the machine for a while spoils no load's every round.
 pub fn measure(loads: &[Load], rounds: usize) -> Vec<Point> {
-    let mut lent: Vec<Lent> = loads.iter().map(Load::lend).collect();
+    let mut buffers: Vec<Vec<u8>> = loads.iter().map(Load::buffer).collect();
     let mut points: Vec<Point> = loads.iter().map(Point::unmeasured).collect();
     for _ in 0..rounds {
-        for ((load, lent), point) in loads.iter().zip(&mut lent).zip(&mut points) {
-            point.measure(load, lent);
+        for ((load, buffer), point) in loads.iter().zip(&mut buffers).zip(&mut points) {
+            point.measure(load, buffer);
         }
     }
     points
-}
-
-/// Nanoseconds per scan, over all lists of a load.
-fn per_scan(load: &Load, call: Replay, lent: &mut Lent) -> f64 {
-    let start = Instant::now();
-    for list in load.lists() {
-        black_box(load.run(call, black_box(list), lent));
-        black_box(&mut *lent);
-    }
-    let time = start.elapsed();
-    time.as_nanos() as f64 / load.scans() as f64
 }

@@ -1,4 +1,5 @@
-//! One list as it is handed to both sides: an image, the records behind each other, and the lengths of what is lent.
+//! One list as it is handed to both sides: an image, the records behind each other, and the lengths of what is lent. Then
+//! what is done to the archive's words.
 
 use std::ops::Range;
 
@@ -12,13 +13,60 @@ const ANALOG: (usize, usize) = (61, 8);
 pub struct Case {
     pub image: Vec<u8>,
     pub records: Vec<u8>,
-    /// Bytes lent for the image written back, for events and for reports.
+    /// Bytes lent for the image written back, for the events of all records in one call, and for a report.
     pub out: usize,
     pub events: usize,
-    pub reports: usize,
-    /// Words lent for the answers of both calls.
-    pub rewrite_words: usize,
+    pub report: usize,
+    /// Words lent for the answers; a second load has enough.
+    pub load_words: usize,
+    pub write_words: usize,
     pub replay_words: usize,
+    pub report_words: usize,
+    /// How each record is scanned alone.
+    pub turns: Vec<Turn>,
+    /// How the words of a bank are damaged.
+    pub flips: Vec<Flip>,
+    pub misfit: Option<Misfit>,
+}
+
+/// The scan of one record, and what is done around it.
+#[derive(Clone, Copy, Debug, PartialEq, Eq)]
+pub struct Turn {
+    /// Bytes lent for events, and words for the answer.
+    pub events: usize,
+    pub words: usize,
+    /// The record has one byte more, the first of the next one.
+    pub longer: bool,
+    /// Before it the bank is saved and restored.
+    pub restored: bool,
+    /// After it every alarm is reported and the image is written.
+    pub reported: bool,
+}
+
+/// Bits of a word that are turned over; never of the layout word.
+#[derive(Clone, Copy, Debug, PartialEq, Eq)]
+pub struct Flip {
+    pub block: usize,
+    pub word: usize,
+    pub bits: u64,
+}
+
+/// What makes blocks none of a bank.
+#[derive(Clone, Copy, Debug, PartialEq, Eq)]
+pub enum Misfit {
+    /// Bits of the layout word turned over.
+    Layout { bits: u64 },
+    /// Another number of words.
+    Length { block: usize, words: usize },
+}
+
+impl Misfit {
+    pub fn block(self) -> usize {
+        match self {
+            Misfit::Layout { .. } => 0,
+            Misfit::Length { block, .. } => block,
+        }
+    }
 }
 
 /// How many alarms of each kind an image speaks of, and so where everything stands. Alarms count from 0 here.
@@ -100,9 +148,17 @@ impl Layout {
 }
 
 impl Case {
-    /// Length in which the records are cut. Of an image without layout none is ever looked at.
+    /// Length in which the records are cut. An image without layout makes a bank without alarms.
     pub fn record_len(&self) -> usize {
         Layout::of(&self.image).map_or(TIME, Layout::record_len)
+    }
+
+    /// A record as it is scanned alone; nothing where there is none.
+    pub fn record(&self, n: usize) -> &[u8] {
+        let start = self.records.len().min(n * self.record_len());
+        let longer = self.turns.get(n).is_some_and(|turn| turn.longer);
+        let end = start + self.record_len() + usize::from(longer);
+        &self.records[start..self.records.len().min(end)]
     }
 
     pub fn record_count(&self) -> usize {
@@ -115,6 +171,7 @@ impl Case {
         let end = self.records.len().min((first + count) * length);
         let mut smaller = self.clone();
         smaller.records.drain(first * length..end);
+        smaller.turns.drain(first..end.div_ceil(length));
         smaller
     }
 

@@ -1,5 +1,7 @@
-//! Random lists of scans through the proved archive and through the second opinion: every return code, answer word and
-//! byte lent must agree. The first list on which they differ is made smaller, shown, and ends the run with 1.
+//! Random lists of scans through the proved archive and through the second opinion, in one replay and then call by call,
+//! with saved and restored banks and reports in between: every return code, answer word and byte lent must agree. On words
+//! that are damaged the archive runs alone, and must end and touch only what it may. The first list on which something is
+//! wrong is made smaller, shown, and ends the run with 1.
 //!
 //!   differential [LISTS] [SEED] [FIRST]
 //!
@@ -10,11 +12,14 @@
 
 mod answers;
 mod case;
+mod damaged;
 mod generate;
+mod lent;
 #[path = "../../rust/meifgur.rs"]
 #[allow(dead_code)] // not all of the wrapper is called here
 #[allow(unsafe_code)] // its calls of the archive
 mod meifgur;
+mod receiver;
 mod rng;
 mod show;
 mod shrink;
@@ -135,7 +140,7 @@ fn main() -> ExitCode {
             return ExitCode::from(2);
         }
     };
-    assert_eq!(meifgur::version(), meifgur::VERSION);
+    assert!(meifgur::sizes_agree(), "an archive of another version");
     println!("seed        {}", run.seed);
     let start = Instant::now();
     let (tally, different) = try_all(&run);

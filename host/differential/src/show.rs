@@ -1,8 +1,8 @@
 //! A list and both answers to it, to be read.
 
-use crate::answers::{Answers, Replayed};
-use crate::case::{number, Case, Layout};
-use crate::meifgur::{EVENT_SIZE, REPORT_SIZE};
+use crate::answers::{Answers, Call, Reply};
+use crate::case::{number, Case, Layout, Turn};
+use crate::meifgur::EVENT_SIZE;
 use std::fmt::Write;
 
 const COMMANDS: [&str; 26] = [
@@ -84,32 +84,58 @@ fn bits(word: u32, names: &[&str]) -> String {
     set.join(" ")
 }
 
-/// Settings, records and the lengths of what is lent.
+/// Settings, records, the damage, and the lengths of what is lent.
 pub fn case(case: &Case) -> String {
     let mut text = format!("settings {}\n", hex(&case.image));
-    match Layout::of(&case.image) {
+    let layout = Layout::of(&case.image);
+    match layout {
         Some(layout) => {
             for alarm in 0..layout.alarms() {
                 text += &settings(layout, alarm, &case.image[layout.settings(alarm)]);
             }
-            for (n, bytes) in case.records.chunks(layout.record_len()).enumerate() {
-                text += &record(layout, n, bytes);
-            }
         }
-        None => text += "  its counts and its length don't fit; the records are not looked at\n",
+        None => text += "  its counts and its length don't fit\n",
     }
+    for (n, lent) in case.turns.iter().enumerate() {
+        text += &record(layout, n, case.record(n));
+        text += &turn(lent);
+    }
+    text + &damage(case) + &lent(case)
+}
+
+fn lent(case: &Case) -> String {
     let Case {
         out,
         events,
-        reports,
-        rewrite_words,
+        report,
+        load_words,
+        write_words,
         replay_words,
+        report_words,
         ..
     } = case;
-    text + &format!(
-        "lent: rewrite {out} bytes, {rewrite_words} words; \
-         replay {events} bytes for events, {reports} for reports, {replay_words} words\n\n"
+    format!(
+        "lent: load {load_words} words; write {out} bytes, {write_words} words; \
+         replay {events} bytes, {replay_words} words; report {report} bytes, {report_words} words\n\n"
     )
+}
+
+fn turn(turn: &Turn) -> String {
+    let Turn { events, words, .. } = turn;
+    let before = ["", "saved and restored before it; "][usize::from(turn.restored)];
+    let after = ["", "; reported and written after it"][usize::from(turn.reported)];
+    format!("  {before}lent {events} bytes, {words} words{after}\n")
+}
+
+fn damage(case: &Case) -> String {
+    let mut text = String::new();
+    for flip in &case.flips {
+        let _ = writeln!(text, "damaged words: {flip:?}");
+    }
+    if let Some(misfit) = case.misfit {
+        let _ = writeln!(text, "no bank: {misfit:?}");
+    }
+    text
 }
 
 fn settings(layout: Layout, alarm: usize, bytes: &[u8]) -> String {
@@ -133,10 +159,10 @@ fn settings(layout: Layout, alarm: usize, bytes: &[u8]) -> String {
     text + &format!("    ROCPeriod {period}, MinDuration {duration}\n")
 }
 
-fn record(layout: Layout, n: usize, bytes: &[u8]) -> String {
-    if bytes.len() < layout.record_len() {
+fn record(layout: Option<Layout>, n: usize, bytes: &[u8]) -> String {
+    let Some(layout) = layout.filter(|layout| layout.record_len() == bytes.len()) else {
         return format!("scan {n}: {} bytes: {}\n", bytes.len(), hex(bytes));
-    }
+    };
     let mut text = format!("scan {n}: time {}\n", number(&bytes[..8]));
     for alarm in 0..layout.alarms() {
         let reading = number(&bytes[layout.reading(alarm)]) as u32;
@@ -160,11 +186,15 @@ pub fn difference(case: &Case) -> String {
     let archive = Answers::of_archive(case);
     let second = Answers::of_second_opinion(case);
     let mut text = String::new();
-    for lines in [head_lines, event_lines] {
-        text += &beside(&lines(&archive), &lines(&second), true);
+    for (left, right) in archive.replies.iter().zip(&second.replies) {
+        let with_equal = !matches!(left.call, Call::Report(_));
+        text += &beside(&lines(left), &lines(right), with_equal);
+        text += &first_byte(left, right);
     }
-    text += &beside(&report_lines(&archive), &report_lines(&second), false);
-    text + &first_bytes(&archive, &second)
+    for fault in archive.faults {
+        let _ = writeln!(text, "archive         {fault}");
+    }
+    text
 }
 
 /// The lines of both sides, each beside its counterpart.
@@ -183,58 +213,30 @@ fn beside(archive: &[String], second: &[String], with_equal: bool) -> String {
 }
 
 /// Where the buffers differ first, as the lines above leave out what is behind the events and reports.
-fn first_bytes(archive: &Answers, second: &Answers) -> String {
-    let pairs = [
-        ("image", &archive.rewritten.out, &second.rewritten.out),
-        ("events", &archive.replayed.events, &second.replayed.events),
-        (
-            "reports",
-            &archive.replayed.reports,
-            &second.replayed.reports,
-        ),
-    ];
-    let mut text = String::new();
-    for (name, left, right) in pairs {
-        if let Some(at) = left.iter().zip(right).position(|(a, b)| a != b) {
-            let _ = writeln!(
-                text,
-                "{name}: differ first at byte {at}: archive {:02X}, second opinion {:02X}",
-                left[at], right[at]
-            );
-        }
-    }
-    text
-}
-
-fn head_lines(answers: &Answers) -> Vec<String> {
-    let (rewritten, replayed) = (&answers.rewritten, &answers.replayed);
-    let line = |call, code, words| format!("{call}: code {code}, answer {words:?}");
-    vec![
-        line("rewrite", rewritten.code, &rewritten.answer),
-        line("replay", replayed.code, &replayed.answer),
-    ]
-}
-
-/// A word of a replay's answer, 0 where the call wrote none.
-fn word(answers: &Answers, n: usize) -> usize {
-    let Replayed { code, answer, .. } = &answers.replayed;
-    match code {
-        0 => answer[n] as usize,
-        _ => 0,
-    }
-}
-
-fn event_lines(answers: &Answers) -> Vec<String> {
-    let events = answers.replayed.events.chunks_exact(EVENT_SIZE);
-    events.take(word(answers, 2)).map(event).collect()
-}
-
-fn report_lines(answers: &Answers) -> Vec<String> {
-    let reports = answers.replayed.reports.chunks_exact(REPORT_SIZE);
-    let reports = reports.take(word(answers, 7)).enumerate();
-    reports
-        .flat_map(|(n, bytes)| report(n + 1, bytes))
+fn first_byte(archive: &Reply, second: &Reply) -> String {
+    let call = archive.call;
+    let byte = archive.lent.first_difference(&second.lent);
+    let word = archive.answer.first_difference(&second.answer);
+    let places = [("byte", byte), ("word of the answer", word)];
+    let places = places.iter().filter_map(|(name, at)| Some((name, (*at)?)));
+    places
+        .map(|(name, at)| format!("{call}: differ first at {name} {at} (from 0)\n"))
         .collect()
+}
+
+/// A line for the answer, and lines for what was written.
+fn lines(reply: &Reply) -> Vec<String> {
+    let Reply { call, code, .. } = reply;
+    let mut lines = vec![format!(
+        "{call}: code {code}, answer {:?}",
+        &reply.answer[..]
+    )];
+    let events = reply.lent.chunks_exact(EVENT_SIZE).take(reply.events());
+    lines.extend(events.map(event));
+    if let (Call::Report(alarm), 0) = (call, code) {
+        lines.extend(report(*alarm, &reply.lent));
+    }
+    lines
 }
 
 fn event(bytes: &[u8]) -> String {

@@ -1,20 +1,25 @@
 //! Makes a list on which the two sides differ smaller, as long as they still differ on it.
 
-use crate::answers::{Answers, REPLAY_WORDS, REWRITE_WORDS};
-use crate::case::{Case, Layout};
-use crate::meifgur::{ALARMS_MOST, EVENTS_ENOUGH, IMAGE_MOST, REPORT_SIZE};
+use crate::answers::Answers;
+use crate::case::{Case, Layout, Turn};
+use crate::meifgur::{
+    EVENTS_ENOUGH, IMAGE_MOST, LOAD_ANSWER, REPLAY_ANSWER, REPORT_ANSWER, REPORT_SIZE, SCAN_ANSWER,
+    WRITE_ANSWER,
+};
 
 pub fn differ(case: &Case) -> bool {
     Answers::of_archive(case) != Answers::of_second_opinion(case)
 }
 
-/// Fewer records, alarms and command bits, in this order, until none can be left out.
+/// Less damage, fewer records, alarms and command bits, in this order, until none can be left out.
 pub fn shrink(case: &Case) -> Case {
     let mut case = case.clone();
     loop {
         let before = case.clone();
         lend_plenty(&mut case);
+        drop_damage(&mut case);
         drop_records(&mut case);
+        calm_turns(&mut case);
         drop_alarms(&mut case);
         clear_bits(&mut case);
         if case == before {
@@ -37,12 +42,50 @@ fn lend_plenty(case: &mut Case) {
     let plenty = Case {
         out: IMAGE_MOST,
         events: EVENTS_ENOUGH * case.record_count(),
-        reports: ALARMS_MOST * REPORT_SIZE,
-        rewrite_words: REWRITE_WORDS,
-        replay_words: REPLAY_WORDS,
+        report: REPORT_SIZE,
+        load_words: LOAD_ANSWER,
+        write_words: WRITE_ANSWER,
+        replay_words: REPLAY_ANSWER,
+        report_words: REPORT_ANSWER,
         ..case.clone()
     };
     take(case, plenty);
+}
+
+fn drop_damage(case: &mut Case) {
+    let fitting = Case {
+        misfit: None,
+        ..case.clone()
+    };
+    take(case, fitting);
+    let sound = Case {
+        flips: Vec::new(),
+        ..case.clone()
+    };
+    take(case, sound);
+    for n in (0..case.flips.len()).rev() {
+        let mut smaller = case.clone();
+        smaller.flips.remove(n);
+        take(case, smaller);
+    }
+}
+
+/// Scans with plenty of room and nothing around them.
+fn calm_turns(case: &mut Case) {
+    let calmer: [fn(&mut Turn); 5] = [
+        |turn| turn.events = EVENTS_ENOUGH,
+        |turn| turn.words = SCAN_ANSWER,
+        |turn| turn.longer = false,
+        |turn| turn.restored = false,
+        |turn| turn.reported = false,
+    ];
+    for n in 0..case.turns.len() {
+        for change in calmer {
+            let mut smaller = case.clone();
+            change(&mut smaller.turns[n]);
+            take(case, smaller);
+        }
+    }
 }
 
 /// Rows of records, long ones first.

@@ -1,6 +1,9 @@
 //! Images and records put together by hand.
 #![allow(dead_code)]
 
+pub mod random;
+pub mod rival;
+
 use second_opinion::{Bank, EVENT_LEN, EVENTS_ENOUGH, Refusal};
 
 pub fn digital(flags: u8, severity: i32, min_duration: u32) -> Vec<u8> {

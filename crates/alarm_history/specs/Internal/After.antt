@@ -5,15 +5,16 @@ use mathlib.Core.Bool.{Bool, false, not, _&&_, cond}
 use Rattle.settings.specs.Condition as Condition
 use Rattle.settings.specs.Condition.{Condition, In}
 use Rattle.settings.specs.declared.types.Alarm.{Alarm}
-use Rattle.history.specs.Past.{Fact, holds, rowStart}
+use Rattle.history.specs.Past.{Fact, holds}
 use Rattle.history.specs.Demand.{count, activation, answer, return}
+use Rattle.history.specs.Internal.Row.{begun}
 use Rattle.history.specs.Internal.Condition.{Kept, kept, acknowledges, returns, activates}
 use Rattle.condition.specs.Command.{countResets}
 use Rattle.condition.specs.Internal.Mark.{Marks, Turn, marksAfter, noMarks, timeStampAfter}
 use Rattle.level.specs.Rate.{noSample}
-use Rattle.alarm.specs.Internal.Held.{Six, ofSix, Side, High, Low, DigitalHeld, AnalogHeld}
-use Rattle.alarm.specs.Internal.Digital.{digitalRequired, digitalStart, digitalTold, digitalAfter}
-use Rattle.alarm.specs.Internal.Analog.{analogRequired, analogTold, cellAfter, analogAfter}
+use Rattle.step.specs.Internal.Held.{Six, ofSix, Side, High, Low, DigitalHeld, AnalogHeld}
+use Rattle.step.specs.Internal.Digital.{digitalRequired, digitalTold, digitalAfter}
+use Rattle.step.specs.Internal.Analog.{analogRequired, analogTold, cellAfter, analogAfter}
 use Rattle.alarm_history.specs.Scans.{Scan, previous, disabledIn, suppressedIn, faultedIn, enabled, countReset}
 use Rattle.alarm_history.specs.Facts.{sampleIn, metIn, freesIn, run, facts}
 use Rattle.alarm_history.specs.Stamps.{ownStart, alarmStamp, ackStamp, returnStamp}
@@ -92,7 +93,7 @@ module _ (a : Alarm) where
           alarm = keptIn scans In .alarm;
           unacked = keptIn scans In .unacked;
           row = holds (own In) scans;
-          start = rowStart (λ x. x .time) (own In) scans;
+          start = begun (λ x. x .time) (own In) scans;
         };
       }
 
@@ -105,13 +106,13 @@ module _ (a : Alarm) where
         held = holds enabled scans;
         previous = previous scans;
         sample = sampleIn a scans;
-        run = λ s. record { on = holds (run a (levelOf s)) scans; start = rowStart (λ x. x .time) (run a (levelOf s)) scans };
+        run = λ s. record { on = holds (run a (levelOf s)) scans; start = begun (λ x. x .time) (run a (levelOf s)) scans };
         cell = λ c.
             record {
               alarm = keptIn scans (ofSix c) .alarm;
               unacked = keptIn scans (ofSix c) .unacked;
               row = holds (own (ofSix c)) scans;
-              start = rowStart (λ x. x .time) (own (ofSix c)) scans;
+              start = begun (λ x. x .time) (own (ofSix c)) scans;
             };
       }
 
@@ -126,7 +127,7 @@ module _ (a : Alarm) where
         returned = returns t (d .cell .alarm);
         activated = activates t (d .cell .alarm);
         required = digitalRequired (a .flags);
-        start = digitalStart a (s .reading) (s .word) (s .time) d;
+        start = digitalAfter a (s .reading) (s .word) (s .time) d .cell .start;
         time = s .time;
       }
 

@@ -1,16 +1,29 @@
--- A bank of alarms before its first scan.
+-- A bank of alarms as a value, and before its first scan.
 use Prim.Native.Nat.{ℕ}
 use mathlib.Core.List.{List}
 use lib.ListN.{replicate}
 use Rattle.reader.specs.Read.{readOf}
 use Rattle.settings.specs.declared.types.Settings.{Settings}
-use Rattle.alarm.specs.Internal.Held.{freshState}
-use Rattle.bank.specs.declared.bank.Bank.{Bank}
-use Rattle.bank.specs.declared.bank.Loaded.{Loaded}
+use Rattle.settings.specs.declared.reply.Reply.{Reply}
+use Rattle.step.specs.Internal.Held.{freshState}
+use Rattle.step.specs.Internal.State.{State}
+
+-- what the words of a bank stand for. `marks` has 25 words for each alarm: its count reset stamp, then count, alarm stamp, ack stamp and
+-- return stamp of each condition
+pub record Bank : Type 0 where
+  pub settings : Settings
+  -- of the last accepted scan
+  pub time : ℕ
+  pub states : List State
+  pub marks : List ℕ
+
+pub record Loaded : Type 0 where
+  pub bank : Bank
+  pub reply : Reply
 
 -- no scan was accepted yet: time, states, counts and stamps are 0
 unfoldable pub freshBank : Settings → Bank
-freshBank s = record { settings = s; time = 0; states = replicate 24 freshState; marks = replicate 600 0 }
+freshBank s = record { settings = s; time = 0; states = replicate 24 freshState; marks = replicate 900 0 }
 
 -- the bank of a settings image; of a refused one a bank without alarms
 unfoldable pub loadOf : List ℕ → Loaded

@@ -3,19 +3,35 @@ use Prim.Native.Nat.{ℕ, _+_, _*_}
 use mathlib.Core.List.{List, _++_}
 use mathlib.Core.Bool.{Bool, cond}
 use lib.Dec.{ltb}
-use lib.ListN.{length, drop}
+use lib.ListN.{length, getD, drop}
 use Rattle.settings.specs.Refusals.{eventsTooLong}
 use Rattle.settings.specs.declared.reply.Refusal.{Refusal}
 use Rattle.settings.specs.declared.reply.Reply.{Reply}
+use Rattle.settings.specs.declared.reply.Reply.the-variants.{Accepted, Refused as RefusedBy}
 use Rattle.condition.specs.Event.{Event, logBytes}
 use Rattle.scan_record.specs.Part.{timeOf}
 use Rattle.scan_record.specs.Check.{checkRecord}
 use Rattle.marks.specs.Internal.Marks.{markAlarms}
-use Rattle.steps.specs.Internal.Plan.{Plan, planOf, eventsUpTo}
-use Rattle.scan_parts.specs.Internal.Parts.{onReply}
-use Rattle.scan_parts.specs.declared.parts.Answer.the-variants.{Events, Refused}
-use Rattle.bank.specs.declared.bank.Bank.{Bank}
-use Rattle.bank.specs.declared.scan.Scanned.{Scanned}
+use Rattle.step.specs.Internal.Held.{freshState}
+use Rattle.step.specs.Internal.State.{startsOf}
+use Rattle.bank.specs.Internal.Plan.{Plan, planOf, eventsUpTo}
+use Rattle.bank.specs.Internal.Bank.{Bank}
+use Rattle.bank.specs.declared.answer.Answer.{Answer}
+use Rattle.bank.specs.declared.answer.Answer.the-variants.{Events, Refused}
+
+-- a bank after a scan, and the answer
+pub record Scanned : Type 0 where
+  pub bank : Bank
+  pub answer : Answer
+
+abbrev pub onReply : {X : Type 0} → Reply → X → (Refusal → X) → X
+onReply Accepted x f = x
+onReply (RefusedBy r) x f = f r
+
+-- what is new after an accepted scan; what stood stands after a refused one
+abbrev pub ifAccepted : {X : Type 0} → Answer → X → X → X
+ifAccepted (Events n) new old = new
+ifAccepted (Refused r) new old = old
 
 -- 7, 8, then each alarm in number order 9, 10, 11
 abbrev pub checkOf : Bank → List ℕ → Reply
@@ -29,6 +45,10 @@ alarmsOf b = b .settings .digital + b .settings .analog
 abbrev pub planFor : Bank → List ℕ → Plan
 planFor b rec = planOf rec (b .settings .digital) (alarmsOf b) (b .settings .alarms) (b .states) (timeOf rec)
 
+-- when the rows of the conditions of the alarm at a place began, after a checked record
+abbrev pub startsAfter : Bank → List ℕ → ℕ → List ℕ
+startsAfter b rec p = startsOf (getD (planFor b rec .states) p freshState)
+
 -- the events of a checked record
 abbrev pub eventsIn : Bank → List ℕ → List Event
 eventsIn b rec = eventsUpTo (b .settings .alarms) (planFor b rec .states) (planFor b rec .events) (timeOf rec) (alarmsOf b)
@@ -40,7 +60,7 @@ bankAfter b rec =
       settings = b .settings;
       time = timeOf rec;
       states = planFor b rec .states;
-      marks = markAlarms (b .settings .alarms) (planFor b rec .states) (planFor b rec .events) (timeOf rec) (alarmsOf b) (b .marks);
+      marks = markAlarms (b .settings .alarms) (startsAfter b rec) (planFor b rec .events) (timeOf rec) (alarmsOf b) (b .marks);
     }
 
 -- the buffer is too short for 16 bytes an event

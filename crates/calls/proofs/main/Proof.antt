@@ -6,10 +6,10 @@ use Rattle.calls.proofs.main.Statement.{statement}
 use Rattle.calls.proofs.main.Tie as tie
 
 abbrev Inv-loop : tie.InvT-loop
-Inv-loop block₀ text₀ bank₀ waiting₀ piece₀ turns₀ block text bank waiting piece turns = (65536 ≡ length block) × (65536 ≡ length text)
+Inv-loop block₀ text₀ settings₀ states₀ marks₀ waiting₀ piece₀ turns₀ block text settings states marks waiting piece turns = (65536 ≡ length block) × (65536 ≡ length text)
 
 abbrev μ-loop : tie.MeasureT-loop
-μ-loop block₀ text₀ bank₀ waiting₀ piece₀ turns₀ block text bank waiting piece turns = turns
+μ-loop block₀ text₀ settings₀ states₀ marks₀ waiting₀ piece₀ turns₀ block text settings states marks waiting piece turns = turns
 
 pub main-spec : {M : Type 1} → statement M
 main-spec =
@@ -19,6 +19,9 @@ main-spec =
     μ-loop
     (λ c κs. search needs)
     (λ c κs. search needs)
+    (λ c. search needs)
+    (λ c. search needs)
+    (λ c. search needs)
     (λ c. search needs)
     (λ c κs. search needs)
     (λ c κs. search needs)

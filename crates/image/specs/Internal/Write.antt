@@ -8,6 +8,10 @@ use lib.Seq.{slice}
 use lib.Ieee.{binary32, toBits}
 use Rattle.wire.specs.Internal.Words.{words}
 use Rattle.settings.specs.Refusals.{imageTooLong}
+use Rattle.layout.specs.Internal.Block.{noBank}
+use Rattle.settings.specs.Alarm.{blanks}
+use Rattle.layout.specs.Internal.Words.{alarmIn}
+use Rattle.layout.specs.Internal.Block.{placed, alarmAt, settingsIn, isBlock}
 use Rattle.settings.specs.declared.types.Limits.{Limits}
 use Rattle.settings.specs.declared.types.Severities.{Severities}
 use Rattle.settings.specs.declared.types.Alarm.{Alarm}
@@ -73,3 +77,17 @@ writtenOf s n = cond (hasRoom (s .digital) (s .analog) n) (Length (length (image
 -- the image in front of what stood behind it; a refusal leaves every byte
 unfoldable pub imageBuffer : Settings → List ℕ → List ℕ
 imageBuffer s out = cond (hasRoom (s .digital) (s .analog) (length out)) (imageOf s ++ drop (length (imageOf s)) out) out
+
+-- ---- the writer reads a settings block
+
+-- what stands at the 24 places, each read by one form
+unfoldable pub readAs : Form → List ℕ → List Alarm
+readAs form ws = placed (λ p. alarmIn form ws (alarmAt p)) 24 blanks
+
+-- the image's length, or 13; 42 where the words are no settings block
+unfoldable pub writeOf : List ℕ → ℕ → Written
+writeOf ws room = cond (isBlock ws) (writtenOf (settingsIn ws) room) (Refused (noBank 0))
+
+-- the lent buffer after it
+unfoldable pub writeBuffer : List ℕ → List ℕ → List ℕ
+writeBuffer ws out = cond (isBlock ws) (imageBuffer (settingsIn ws) out) out

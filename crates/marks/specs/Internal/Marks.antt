@@ -9,8 +9,6 @@ use Rattle.wire.specs.Bits.{bit}
 use Rattle.condition.specs.Internal.Mark.{Marks, Turn, marksAfter, timeStampAfter}
 use Rattle.settings.specs.Alarm.{blank, ackRequired}
 use Rattle.settings.specs.declared.types.Alarm.{Alarm}
-use Rattle.alarm.specs.Internal.Held.{freshState}
-use Rattle.alarm.specs.declared.state.State.{State}
 
 -- a condition's four words at an offset
 abbrev pub marksAt : List ℕ → ℕ → Marks
@@ -23,24 +21,25 @@ marksWords m = m .count ∷ m .alarm ∷ m .ack ∷ m .return ∷ []
 unfoldable pub markCondition : Turn → ℕ → List ℕ → List ℕ
 markCondition t at xs = sets xs at (marksWords (marksAfter t (marksAt xs at)))
 
--- when the row of scans began that met the condition at a place
-abbrev pub startAt : State → ℕ → ℕ
-startAt s place = getD (s .hh ∷ s .h ∷ s .l ∷ s .ll ∷ s .rocpos ∷ s .rocneg ∷ []) place 0
-
--- what the scan did to the condition at a place, from the alarm's state after it and its event word
-abbrev pub turnAt : Bool → State → ℕ → ℕ → ℕ → Turn
-turnAt required s word time c =
+-- what the scan did to the condition at a place, from the starts of the conditions' rows after it and the alarm's event word
+abbrev pub turnAt : Bool → List ℕ → ℕ → ℕ → ℕ → Turn
+turnAt required starts word time c =
     record {
       reset = bit word 4;
       acknowledged = bit word (6 + 3 * c);
       returned = bit word (7 + 3 * c);
       activated = bit word (8 + 3 * c);
       required = required;
-      start = startAt s c;
+      start = getD starts c 0;
       time = time;
     }
 
--- the same from the three bits of the condition alone
+-- the six starts, in words from an offset on
+abbrev pub startsIn : List ℕ → ℕ → List ℕ
+startsIn ws from =
+    getD ws from 0 ∷ getD ws (from + 1) 0 ∷ getD ws (from + 2) 0 ∷ getD ws (from + 3) 0 ∷ getD ws (from + 4) 0 ∷ getD ws (from + 5) 0 ∷ []
+
+-- the same turn from the three bits of the condition alone
 abbrev pub turnBy : Bool → ℕ → Bool → ℕ → ℕ → Turn
 turnBy reset events required start time =
     record {
@@ -54,19 +53,19 @@ turnBy reset events required start time =
     }
 
 -- the first n conditions of an alarm
-unfoldable pub markConditions : Bool → State → ℕ → ℕ → ℕ → ℕ → List ℕ → List ℕ
-markConditions required s word time base zero xs = xs
-markConditions required s word time base (suc n) xs =
-    markCondition (turnAt required s word time n) (base + 4 * n) (markConditions required s word time base n xs)
+unfoldable pub markConditions : Bool → List ℕ → ℕ → ℕ → ℕ → ℕ → List ℕ → List ℕ
+markConditions required starts word time base zero xs = xs
+markConditions required starts word time base (suc n) xs =
+    markCondition (turnAt required starts word time n) (base + 4 * n) (markConditions required starts word time base n xs)
 
 -- an alarm's 25 words at an offset: the count reset stamp, then the conditions
-unfoldable pub markAlarm : Bool → State → ℕ → ℕ → ℕ → List ℕ → List ℕ
-markAlarm required s word time at xs =
-    markConditions required s word time (at + 1) 6 (set xs at (timeStampAfter (bit word 4) time (getD xs at 0)))
+unfoldable pub markAlarm : Bool → List ℕ → ℕ → ℕ → ℕ → List ℕ → List ℕ
+markAlarm required starts word time at xs =
+    markConditions required starts word time (at + 1) 6 (set xs at (timeStampAfter (bit word 4) time (getD xs at 0)))
 
--- the first n alarms, from their states after the scan and their event words
-unfoldable pub markAlarms : List Alarm → List State → List ℕ → ℕ → ℕ → List ℕ → List ℕ
-markAlarms alarms states events time zero xs = xs
-markAlarms alarms states events time (suc n) xs =
-    markAlarm (ackRequired (getD alarms n blank .kind) (getD alarms n blank .flags)) (getD states n freshState) (getD events n 0) time (25 * n)
-    (markAlarms alarms states events time n xs)
+-- the first n alarms, from the starts of their conditions' rows after the scan and their event words
+unfoldable pub markAlarms : List Alarm → (ℕ → List ℕ) → List ℕ → ℕ → ℕ → List ℕ → List ℕ
+markAlarms alarms starts events time zero xs = xs
+markAlarms alarms starts events time (suc n) xs =
+    markAlarm (ackRequired (getD alarms n blank .kind) (getD alarms n blank .flags)) (starts n) (getD events n 0) time (25 * n)
+    (markAlarms alarms starts events time n xs)

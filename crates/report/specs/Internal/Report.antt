@@ -5,9 +5,12 @@ use lib.Dec.{leb}
 use lib.ListN.{getD}
 use Rattle.settings.specs.Alarm.{blank}
 use Rattle.settings.specs.declared.reply.Reply.the-variants.{Accepted}
-use Rattle.alarm.specs.Internal.Held.{freshState}
-use Rattle.bank.specs.declared.bank.Bank.{Bank}
-use Rattle.report.specs.Empty.{noReport}
+use Rattle.step.specs.Internal.Held.{freshState}
+use Rattle.bank.specs.Internal.Bank.{Bank}
+use Rattle.bank.specs.Internal.Scan.{onReply}
+use Rattle.bank.specs.Lent.{Words}
+use Rattle.bank.specs.Internal.Words.{fitOf, bankIn}
+use Rattle.report.specs.Empty.{refusedReport, noReport}
 use Rattle.report.specs.Internal.Status.{statusesOf}
 use Rattle.report.specs.Internal.Whole.{wholeOf}
 use Rattle.report.specs.declared.report.AlarmReport.{AlarmReport}
@@ -28,3 +31,7 @@ reportAt b place =
 
 unfoldable pub reportOf : Bank → ℕ → AlarmReport
 reportOf b n = cond (isThere (b .settings .digital) (b .settings .analog) n) (reportAt b (n - 1)) noReport
+
+-- from words that a caller lends: 42 where they hold no bank
+unfoldable pub reportIn : Words → ℕ → AlarmReport
+reportIn w n = onReply (fitOf w) (reportOf (bankIn w) n) (λ r. refusedReport r)

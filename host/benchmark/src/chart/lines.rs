@@ -1,8 +1,8 @@
 //! A line for each contender: how the time of a scan grows.
 
-use super::colour;
 use super::panel::{Area, Panel};
 use super::svg::{Anchor, Svg};
+use crate::contenders::CONTENDERS;
 use crate::spec::{ALARMS, SCANS};
 use crate::table::thousands;
 use crate::timing::Point;
@@ -13,7 +13,7 @@ const MARGIN: f64 = 14.0;
 /// Alarms stand evenly.
 pub fn by_alarms(svg: &mut Svg, area: Area, points: &[&Point]) {
     let caption = format!("by alarms: busy drive, {} scans", thousands(SCANS));
-    let alarms = points.iter().map(|point| point.spec.alarms);
+    let alarms = points.iter().map(|point| point.spec.shape.alarms());
     let marks: Vec<_> = alarms.map(|n| (n as f64, n.to_string())).collect();
     draw(svg, area, &caption, points, &marks);
 }
@@ -28,8 +28,8 @@ pub fn by_scans(svg: &mut Svg, area: Area, points: &[&Point]) {
 
 /// `marks` are where each point stands from left to right, and its label.
 fn draw(svg: &mut Svg, area: Area, caption: &str, points: &[&Point], marks: &[(f64, String)]) {
-    let most = points.iter().flat_map(|point| point.times());
-    let panel = Panel::draw(svg, area, caption, most.fold(0.0, f64::max));
+    let most = points.iter().flat_map(|point| &point.times);
+    let panel = Panel::draw(svg, area, caption, most.copied().fold(0.0, f64::max));
     let (Some((least, _)), Some((most, _))) = (marks.first(), marks.last()) else {
         return;
     };
@@ -38,14 +38,13 @@ fn draw(svg: &mut Svg, area: Area, caption: &str, points: &[&Point], marks: &[(f
     for (mark, label) in marks {
         svg.text(x(*mark), area.bottom() + 20.0, Anchor::Middle, label);
     }
-    let contenders = points.first().map_or(0, |point| point.times().count());
-    for n in 0..contenders {
-        let times = points.iter().filter_map(|point| point.times().nth(n));
+    for contender in CONTENDERS {
+        let times = points.iter().map(|point| point.time(contender.name));
         let curve = marks.iter().zip(times);
         let curve: Vec<(f64, f64)> = curve
             .map(|((mark, _), time)| (x(*mark), panel.y(time)))
             .collect();
-        svg.curve(&curve, colour(n));
+        svg.curve(&curve, contender.colour);
     }
 }
 

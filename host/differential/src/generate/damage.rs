@@ -1,9 +1,12 @@
-//! Images and records that are not as they should be.
+//! Images, records and words of a bank that are not as they should be.
 
 use super::scans::{ANALOG_BITS, DIGITAL_BITS};
 use super::settings::{LARGEST, LONGEST_PERIOD};
-use crate::case::{number, Layout};
+use crate::case::{number, Flip, Layout, Misfit};
+use crate::meifgur::{MARKS_WORDS, SETTINGS_WORDS, STATES_WORDS};
 use crate::rng::Rng;
+
+const BLOCKS: [usize; 3] = [SETTINGS_WORDS, STATES_WORDS, MARKS_WORDS];
 
 /// Patterns of REALs that are none, and numbers outside their range.
 const BAD: [u32; 9] = [
@@ -149,4 +152,53 @@ fn spoil_number(rng: &mut Rng, layout: Layout, image: &mut [u8]) {
     let settings = layout.settings(rng.below(layout.alarms()));
     let at = settings.start + 1 + 4 * rng.below((settings.len() - 1) / 4);
     image[at..at + 4].copy_from_slice(&rng.pick(&BAD).to_le_bytes());
+}
+
+/// Damage to the words of a bank: mostly none, else one word or many.
+pub fn flips(rng: &mut Rng) -> Vec<Flip> {
+    let flips = match rng.below(20) {
+        0 | 1 => 1 + rng.below(3),
+        2 => 1 + rng.below(20),
+        3 => 1 + rng.below(1000),
+        _ => 0,
+    };
+    (0..flips).map(|_| flip_word(rng)).collect()
+}
+
+/// Of the first words mostly: few alarms are there, and the counts stand in front. The first of the settings is the layout word.
+fn flip_word(rng: &mut Rng) -> Flip {
+    let block = rng.below(3);
+    let end = rng.pick(&[4, 20, 60, BLOCKS[block]]);
+    let first = usize::from(block == 0);
+    Flip {
+        block,
+        word: first + rng.below(end - first),
+        bits: some_bits(rng),
+    }
+}
+
+/// At least one.
+fn some_bits(rng: &mut Rng) -> u64 {
+    match rng.below(4) {
+        0 => 1 << rng.below(64),
+        1 => 1 << rng.below(8),
+        2 => u64::MAX,
+        _ => rng.next().max(1),
+    }
+}
+
+/// A layout word or a length that no bank has, in some lists.
+pub fn misfit(rng: &mut Rng) -> Option<Misfit> {
+    let block = rng.below(3);
+    let length = BLOCKS[block];
+    match rng.below(60) {
+        0 => Some(Misfit::Layout {
+            bits: some_bits(rng),
+        }),
+        1 | 2 => Some(Misfit::Length {
+            block,
+            words: rng.pick(&[0, 1, 4, length - 1, length + 1, 2 * length]),
+        }),
+        _ => None,
+    }
 }

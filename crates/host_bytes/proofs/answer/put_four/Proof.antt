@@ -1,23 +1,11 @@
--- `host_bytes::answer::put_four` meets its contract: four words, one after the other. Assumes nothing.
+-- `host_bytes::answer::put_four` meets its contract. Assumes nothing.
 use borrow.Author.Needs.{needs}
 use mathlib.Core.Path.{_∙_}
-use native.Mathlib.Numerals.{add-one, add-two, add-three}
 use Rattle.host_bytes.proofs.answer.put_four.Statement.{statement}
 use Rattle.host_bytes.proofs.answer.put_four.Tie as tie
 
 returns : tie.Need-returns
-returns c = c .before .before .put-word4 .ensures ∙ rw (c .before .before .before .before .before .before .put-word3 .ensures, c .before .before .before .before .before .before .before .before .before .before .put-word2 .ensures, c .before .before .before .before .before .before .before .before .before .before .before .before .before .before .put-word .ensures, add-one, add-two, add-three)
+returns c = c .before .before .put-word .ensures ∙ rw (c .before .before .before .before .before .before .put-three .ensures)
 
 pub put-four-spec : {M : Type 1} → statement M
-put-four-spec =
-    tie.close
-    (tie.spec
-    (λ c κs. search needs)
-    (λ c. search needs)
-    (λ c κs. search needs)
-    (λ c. search needs)
-    (λ c κs. search needs)
-    (λ c. search needs)
-    (λ c κs. search needs)
-    (λ c. search needs)
-    returns)
+put-four-spec = tie.close (tie.spec (λ c κs. search needs) (λ c κs. search needs) (λ c. search needs) returns)

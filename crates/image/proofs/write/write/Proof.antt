@@ -1,41 +1,36 @@
--- `image::write::write` meets its contract: both sections one after the other, where there is room. Assumes nothing.
+-- `image::write::write` meets its contract: words that are no settings block are refused. Assumes nothing.
 use borrow.Author.Needs.{needs}
-use Rattle.image.specs.declared.write.Written.the-variants.{Length}
-use Rattle.image.proofs.Images.{image-length, image-front, room, section-room}
-use Rattle.settings.specs.declared.types.Form.the-variants.{Digital, Analog}
-use Rattle.image.specs.Internal.Write.{writtenOf, imageBuffer}
-use borrow.Author.Tests.{not-true, not-false}
+use Rattle.image.specs.Internal.Write.{writeOf, writeBuffer}
+use Rattle.wire.proofs.Laws.{and-true}
+use borrow.Author.Tests.{not-true, not-false, eqb-true}
+use lib.ListN.{length, getD}
+use lib.Dec.{eqb}
 use denote.Ref.{now}
-use native.Mathlib.Omega.{arith}
-use mathlib.Core.Path.{sym, ap, _∙_}
+use mathlib.Core.Path.{sym, _∙_}
+use Rattle.layout.specs.Internal.Block.{layoutWord}
 use Rattle.image.proofs.write.write.Statement.{statement}
 use Rattle.image.proofs.write.write.Tie as tie
 
 returns : tie.Need-returns
-unfolding writtenOf imageBuffer
-returns c = (simp (← c .before .has-room .ensures, not-true (c .before .has-room .result) (c .if1 .taken)), simp (← c .before .has-room .ensures, not-true (c .before .has-room .result) (c .if1 .taken)))
+unfolding writeOf writeBuffer
+returns c =
+    let e = not-true (c .before .is-block .result) (c .if1 .taken) in
+    (simp (← c .before .is-block .ensures, e), simp (← c .before .is-block .ensures, e))
 
-put-section-requires : tie.Need-put-section-requires
-put-section-requires c κs =
-    let s = c .before .before .before .before .before .args .settings in
-    let r = room _ _ _ (sym (c .before .before .has-room .ensures) ∙ not-false (c .before .before .has-room .result) (c .before .if1 .left)) in
-    omega (arith, section-room Digital 0 (s .digital) (s .alarms), r .digital, r .image)
-
-put-section-requires-2 : tie.Need-put-section-requires-2
-put-section-requires-2 c κs =
-    let s = c .before .before .before .before .before .before .before .before .before .args .settings in
-    let r = room _ _ _ (sym (c .before .before .before .before .before .before .has-room .ensures) ∙ not-false (c .before .before .before .before .before .before .has-room .result) (c .before .before .before .before .before .if1 .left)) in
-    omega (arith, section-room Digital 0 (s .digital) (s .alarms), section-room Analog (s .digital) (s .analog) (s .alarms), r .digital, r .analog, r .image)
+write-block-requires : tie.Need-write-block-requires
+write-block-requires c κs =
+    let ws = now (c .before .before .before .before .before .args .words) in
+    let b = c .before .before .is-block in
+    let e = sym (b .ensures) ∙ not-false (b .result) (c .before .if1 .left) in
+    eqb-true (length ws) 292 (and-true (eqb (length ws) 292) (eqb (getD ws 0 0) layoutWord) e .0)
 
 returns-2 : tie.Need-returns-2
-unfolding writtenOf imageBuffer
+unfolding writeOf writeBuffer
 returns-2 c =
-    let s = c .before .before .before .before .before .before .before .before .before .before .before .before .args .settings in
-    let h = c .before .before .before .before .before .before .before .before .before .has-room in
-    let t = sym (h .ensures) ∙ not-false (h .result) (c .before .before .before .before .before .before .before .before .if1 .left) in
-    let p = c .before .before .before .before .before .before .put-section .ensures in
-    let q = c .before .before .put-section2 .ensures in
-    (rw t (ap Length (image-length s (p .0) (q .0))), rw t (image-front s (now (c .before .before .before .before .before .before .before .before .before .before .before .before .args .out)) (room _ _ _ t) (p .0) (p .1) (q .1)))
+    let b = c .before .before .before .before .before .is-block in
+    let e = not-false (b .result) (c .before .before .before .before .if1 .left) in
+    let w = c .before .before .write-block .ensures in
+    (simp (← b .ensures, e) (w .0), simp (← b .ensures, e) (w .1))
 
 pub write-spec : {M : Type 1} → statement M
 write-spec =
@@ -43,7 +38,6 @@ write-spec =
     (tie.spec
     (λ c κs. search needs)
     returns
-    put-section-requires
-    put-section-requires-2
+    write-block-requires
     (λ c. search needs)
     returns-2)

@@ -6,10 +6,10 @@ use Rattle.meifgur.proofs.run.run.Statement.{statement}
 use Rattle.meifgur.proofs.run.run.Tie as tie
 
 abbrev Inv-loop : tie.InvT-loop
-Inv-loop size events₀ block₀ text₀ waiting₀ next₀ piece₀ turns₀ events block text waiting next piece turns = (65536 ≡ length block) × (65536 ≡ length text) × (3840 ≡ length events)
+Inv-loop settings states₀ marks₀ size block₀ text₀ waiting₀ piece₀ turns₀ states marks block text waiting piece turns = (65536 ≡ length block) × (65536 ≡ length text)
 
 abbrev μ-loop : tie.MeasureT-loop
-μ-loop size events₀ block₀ text₀ waiting₀ next₀ piece₀ turns₀ events block text waiting next piece turns = turns
+μ-loop settings states₀ marks₀ size block₀ text₀ waiting₀ piece₀ turns₀ states marks block text waiting piece turns = turns
 
 pub run-spec : {M : Type 1} → statement M
 run-spec =
@@ -28,7 +28,6 @@ run-spec =
     (λ c κs. search needs)
     (λ c. search needs)
     (λ c κs. search needs)
-    (λ c. search needs)
     (λ c. search needs)
     (λ c κs. search needs)
     (λ c. search needs)

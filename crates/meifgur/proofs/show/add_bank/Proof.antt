@@ -7,10 +7,10 @@ use Rattle.meifgur.proofs.show.add_bank.Statement.{statement}
 use Rattle.meifgur.proofs.show.add_bank.Tie as tie
 
 abbrev Inv-loop : tie.InvT-loop
-Inv-loop text₀ waiting bank digital at₀ n₀ text at n = length text ≡ length text₀
+Inv-loop text₀ waiting settings states marks digital at₀ n₀ text at n = length text ≡ length text₀
 
 abbrev μ-loop : tie.MeasureT-loop
-μ-loop text₀ waiting bank digital at₀ n₀ text at n = 25 - n
+μ-loop text₀ waiting settings states marks digital at₀ n₀ text at n = 25 - n
 
 pub add-bank-spec : {M : Type 1} → statement M
 add-bank-spec =

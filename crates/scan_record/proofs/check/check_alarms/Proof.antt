@@ -6,7 +6,8 @@ use native.Mathlib.Nat.{sub-zero}
 use native.Mathlib.Omega.{arith}
 use denote.Ref.{now}
 use Rattle.scan_record.specs.Internal.Size.{entrySize}
-use Rattle.scan_record.specs.Part.{formAt, offsetOf}
+use Rattle.scan_record.specs.Part.{offsetOf}
+use Rattle.settings.specs.Alarm.{formAt}
 use Rattle.scan_record.specs.Check.{checkFrom}
 use Rattle.scan_record.proofs.Entries.{entry-past, offset-next, check-next, check-stop, check-end}
 use Rattle.scan_record.proofs.check.check_alarms.Statement.{statement}

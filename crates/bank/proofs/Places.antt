@@ -1,0 +1,86 @@
+-- What the words of a bank say place by place. Assumes nothing.
+use mathlib.Core.Path.{_≡_, refl, _∙_}
+use mathlib.Core.Bool.{Bool, true, false, _&&_, cond}
+use mathlib.Core.List.{List}
+use Prim.Native.Nat.{ℕ, zero, suc, _≤_, _<_}
+use native.Mathlib.Omega.{arith}
+use borrow.Author.Tests.{eqb-true}
+use lib.Dec.{eqb}
+use lib.ListN.{length, getD, set, replicate, length-set, length-replicate}
+use lib.Seq.{getD-set-same, getD-set-other}
+use Rattle.wire.proofs.Laws.{below, and-true}
+use Rattle.settings.specs.Alarm.{blank, blanks}
+use Rattle.layout.specs.Internal.Block.{noBank}
+use Rattle.settings.specs.declared.reply.Refusal.{Refusal}
+use Rattle.settings.specs.declared.reply.Reply.the-variants.{Accepted, Refused as RefusedBy}
+use Rattle.layout.specs.Internal.Block.{layoutWord, placed, countIn, alarmOn, settingsIn, isBlock}
+use Rattle.step.specs.Internal.Held.{freshState}
+use Rattle.step.specs.Internal.State.{stateIn, stateAt}
+use Rattle.bank.specs.Lent.{Words}
+use Rattle.bank.specs.Internal.Words.{fitOf, bankIn}
+
+-- ---- elements that are placed one after the other
+
+module _ {X : Type 0} where
+  pub length-placed : (f : ℕ → X) (n : ℕ) (xs : List X) → length (placed f n xs) ≡ length xs
+  unfolding placed
+  length-placed f zero xs = refl
+  length-placed f (suc n) xs = length-set (placed f n xs) n (f n) ∙ length-placed f n xs
+
+  -- the rest stays
+  pub placed-above : (f : ℕ → X) (n i : ℕ) (xs : List X) (d : X) → n ≤ i → getD (placed f n xs) i d ≡ getD xs i d
+  unfolding placed
+  placed-above f zero i xs d h = refl
+  placed-above f (suc n) i xs d h = getD-set-other (placed f n xs) n i (f n) d (λ e. omega arith) ∙ placed-above f n i xs d (omega arith)
+
+  -- the first n are what f gives
+  pub placed-below : (f : ℕ → X) (n i : ℕ) (xs : List X) (d : X) → i < n → n ≤ length xs → getD (placed f n xs) i d ≡ f i
+  unfolding placed
+  placed-below f zero i xs d h l = absurd (omega arith)
+  placed-below f (suc n) i xs d h l =
+      below (λ (k : ℕ). getD (set (placed f n xs) n (f n)) k d ≡ f k) h
+      (getD-set-same (placed f n xs) n (f n) d (omega (arith, length-placed f n xs)))
+      (λ m. getD-set-other (placed f n xs) n i (f n) d (λ e. omega arith) ∙ placed-below f n i xs d m (omega arith))
+
+-- ---- the bank that words stand for
+
+-- the alarm at a place
+pub alarm-there : (w : Words) (place : ℕ) → countIn (w .settings) ≤ 24 → place < countIn (w .settings)
+    → getD (bankIn w .settings .alarms) place blank ≡ alarmOn (w .settings) place
+unfolding bankIn settingsIn blanks
+alarm-there w place m h =
+    placed-below (alarmOn (w .settings)) (countIn (w .settings)) place (replicate 24 blank) blank h (omega (arith, length-replicate 24 blank))
+
+-- and its state
+pub state-there : (w : Words) (place : ℕ) → place < 24 → getD (bankIn w .states) place freshState ≡ stateIn (w .states) (stateAt place)
+unfolding bankIn
+state-there w place h =
+    placed-below (λ p. stateIn (w .states) (stateAt p)) 24 place (replicate 24 freshState) freshState h (omega (arith, length-replicate 24 freshState))
+
+-- ---- blocks that hold a bank
+
+pub record Fits (w : Words) : Type 0 where
+  pub settings-long : length (w .settings) ≡ 292
+  pub layout : getD (w .settings) 0 0 ≡ layoutWord
+  pub states-long : length (w .states) ≡ 580
+  pub marks-long : length (w .marks) ≡ 900
+
+-- tests that all passed
+passed : (p q t : Bool) (x y z : Refusal) → cond p (cond q (cond t Accepted (RefusedBy z)) (RefusedBy y)) (RefusedBy x) ≡ Accepted
+    → (p ≡ true) × (q ≡ true) × (t ≡ true)
+passed true true true x y z e = (refl, refl, refl)
+passed true true false x y z e = let n : _≡_ {A = ℕ} 0 1 = cc in absurd (omega arith)
+passed true false t x y z e = let n : _≡_ {A = ℕ} 0 1 = cc in absurd (omega arith)
+passed false q t x y z e = let n : _≡_ {A = ℕ} 0 1 = cc in absurd (omega arith)
+
+pub fit-says : (w : Words) → fitOf w ≡ Accepted → Fits w
+unfolding fitOf
+fit-says w e =
+    let t = passed (isBlock (w .settings)) (eqb (length (w .states)) 580) (eqb (length (w .marks)) 900) (noBank 0) (noBank 1) (noBank 2) e in
+    let b = and-true (eqb (length (w .settings)) 292) (eqb (getD (w .settings) 0 0) layoutWord) (t .0) in
+    record {
+      settings-long = eqb-true _ _ (b .0);
+      layout = eqb-true _ _ (b .1);
+      states-long = eqb-true _ _ (t .1);
+      marks-long = eqb-true _ _ (t .2);
+    }

@@ -1,2 +1,0 @@
-// A drive replayed and each alarm reported, for a host.
-pub mod replaying;

@@ -1,0 +1,4 @@
+pub mod Laws
+pub mod Stores
+pub mod Blocks
+pub mod Back

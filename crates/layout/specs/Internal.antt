@@ -1,0 +1,3 @@
+-- What contracts and proofs use and a reader need not believe.
+pub mod Words
+pub mod Block

@@ -1,0 +1,73 @@
+// The settings block, 292 words.
+ghost use mathlib.Core.Path.{_≡_};
+ghost use Prim.Native.Nat.{_≤_};
+ghost use lib.ListN.{length, getD, replicate};
+ghost use lib.Seq.{sets};
+ghost use Rattle.layout.specs.Internal.Block.{layoutWord, headWords, alarmsWords, settingsWords, Says, isBlock};
+use crate::put::put_alarm;
+use crate::sizes::ALARM_WORDS;
+use crate::sizes::LAYOUT_WORD;
+use crate::sizes::SETTINGS_HEAD;
+use crate::sizes::SETTINGS_WORDS;
+use settings::types::Alarm;
+use settings::types::Settings;
+
+// Whether a call wrote these words: their number, and the layout word in front.
+pub fn is_block(words: &[u64]) -> bool
+    ensures { λ r. ⌜ r ≡ isBlock (now (words .entry)) ⌝ }
+{
+    if words.len() == SETTINGS_WORDS {
+        words[0] == LAYOUT_WORD
+    } else {
+        false
+    }
+}
+
+// Every word 0, so that no place keeps what stood there.
+pub fn clear(words: &mut [u64])
+    ensures { λ _. ⌜ now (words .exit) ≡ replicate (length (now (words .entry))) 0 ⌝ }
+{
+    let mut i = 0;
+    while i < words.len() {
+        words[i] = 0;
+        i += 1;
+    }
+}
+
+// The layout word, the counts, and 0 where a third count has room.
+fn put_head(words: &mut [u64], digital: usize, analog: usize)
+    requires { ⌜ 4 ≤ length (now words) ⌝ }
+    ensures { λ _. ⌜ now (words .exit) ≡ sets (now (words .entry)) 0 (headWords digital analog) ⌝ }
+{
+    words[0] = LAYOUT_WORD;
+    words[1] = digital as u64;
+    words[2] = analog as u64;
+    words[3] = 0;
+}
+
+// Writes each alarm at its place. The array's length is said for the caller, who holds it in a struct and doesn't see it.
+fn put_alarms(words: &mut [u64], alarms: [Alarm; 24])
+    requires { ⌜ length (now words) ≡ 292 ⌝ }
+    ensures { λ _. ⌜ now (words .exit) ≡ sets (now (words .entry)) 4 (alarmsWords alarms) ⌝ }
+    ensures { λ _. ⌜ Says alarms 24 (now (words .exit)) ⌝ }
+    ensures { λ _. ⌜ length alarms ≡ 24 ⌝ }
+{
+    let mut place = 0;
+    while place < 24 {
+        put_alarm(words, SETTINGS_HEAD + ALARM_WORDS * place, alarms[place]);
+        place += 1;
+    }
+}
+
+// Writes the whole block. The counts are written as they are, and the places behind the 24 of settings are 0.
+pub fn put_settings(words: &mut [u64], settings: Settings)
+    requires { ⌜ length (now words) ≡ 292 ⌝ }
+    ensures { λ _. ⌜ now (words .exit) ≡ settingsWords settings ⌝ }
+    ensures { λ _. ⌜ Says (settings .alarms) 24 (now (words .exit)) ⌝ }
+    ensures { λ _. ⌜ (getD (now (words .exit)) 0 0 ≡ layoutWord) × (getD (now (words .exit)) 1 0 ≡ settings .digital) × (getD (now (words .exit)) 2 0 ≡ settings .analog) ⌝ }
+{
+    let alarms = settings.alarms;
+    clear(words);
+    put_head(words, settings.digital, settings.analog);
+    put_alarms(words, alarms);
+}

@@ -1,0 +1,42 @@
+-- `meifgur_c::load_call::meifgur_load` meets its contract. Assumes nothing.
+use borrow.Author.Needs.{needs}
+use borrow.Author.Tests.{lt-ltb, le-ltb}
+use denote.Ref.{now}
+use mathlib.Core.Path.{_≡_, refl, ap, _∙_}
+use mathlib.Core.List.{List, [], _∷_}
+use Prim.Native.Nat.{ℕ}
+use lib.ListN.{length, getD}
+use lib.Seq.{sets}
+use Rattle.meifgur_c.specs.Calls.{replyNumber, replyWords}
+use Rattle.meifgur_c.proofs.load_call.meifgur_load.Statement.{statement}
+use Rattle.meifgur_c.proofs.load_call.meifgur_load.Tie as tie
+
+returns : tie.Need-returns
+returns c = rw (lt-ltb (length (now (c .before .before .before .before .before .before .args .answer))) 4 (c .if1 .taken)) (refl, (refl, (refl, (refl, refl))))
+
+returns-2 : tie.Need-returns-2
+returns-2 c =
+    let a = c .before .before .before .before .before .before .before .before .before .before .before .before .before .before .before .before .before .before .before .before .before .before .before .before .args in
+    let e = c .before .before .before .before .before .before .before .before .before .before .before .before .before .before .load .ensures in
+    let f = c .before .before .put-loaded .ensures in
+    let d = c .before .before .before .before .before .before .word-at .ensures ∙ ap (λ (l : List ℕ). getD l 1 0) (e .1 .0) in
+    let n = c .before .before .before .before .word-at2 .ensures ∙ ap (λ (l : List ℕ). getD l 2 0) (e .1 .0) in
+    rw (le-ltb (length (now (a .answer))) 4 (c .before .before .before .before .before .before .before .before .before .before .before .before .before .before .before .before .before .before .if1 .left)) (
+      f .0 ∙ ap replyNumber (e .0),
+      (e .1 .0, (e .1 .1 .0, (e .1 .1 .1, f .1 ∙ (λ i. sets (now (a .answer)) 0 (replyWords (e .0 i) (d i ∷ n i ∷ [])))))),
+    )
+
+pub meifgur-load-spec : {M : Type 1} → statement M
+meifgur-load-spec =
+    tie.close
+    (tie.spec
+    returns
+    (λ c κs. search needs)
+    (λ c κs. search needs)
+    (λ c κs. search needs)
+    (λ c κs. search needs)
+    (λ c. search needs)
+    (λ c. search needs)
+    (λ c. search needs)
+    (λ c. search needs)
+    returns-2)

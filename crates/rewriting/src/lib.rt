@@ -1,2 +1,0 @@
-// A settings image checked and written back, for a host.
-pub mod rewrite;

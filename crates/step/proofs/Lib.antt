@@ -1,0 +1,6 @@
+mod Assemble
+pub mod Back
+pub mod Laws
+mod Starts
+mod Words
+mod Steps

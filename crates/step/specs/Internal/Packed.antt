@@ -1,0 +1,87 @@
+-- Parts of a step on words, for the functions that work them out.
+use Prim.Native.Nat.{ℕ, suc, _+_, _*_, _-_, _/_, _%_}
+use mathlib.Core.Bool.{Bool, true, not, _&&_, _||_, cond}
+use mathlib.Core.List.{List, [], _∷_}
+use lib.Dec.{leb, eqb}
+use lib.ListN.{getD, set}
+use lib.Ieee.{Float, binary32, ofBits, toBits}
+use Rattle.wire.specs.Bits.{bit}
+use Rattle.wire.specs.Internal.Words.{wordOf, spread}
+use Rattle.layout.specs.Internal.Words.{lowerOf, upperOf, pairOf}
+use Rattle.level.specs.Rate.{newRate}
+use Rattle.condition.specs.Internal.Outcome.{ackBits}
+use Rattle.six.specs.Internal.Cells.{cellsOf}
+use Rattle.six.specs.declared.decide.Cells.{Cells}
+
+-- ---- starts
+
+-- the word at an offset, or a time instead
+abbrev pub keepStart : Bool → ℕ → ℕ → List ℕ → List ℕ
+keepStart begins time at ws = set ws at (cond begins time (getD ws at 0))
+
+-- one after the other from an offset on
+unfoldable pub keepStarts : List Bool → ℕ → ℕ → List ℕ → List ℕ
+keepStarts [] time at ws = ws
+keepStarts (b ∷ bs) time at ws = keepStarts bs time (suc at) (keepStart b time at ws)
+
+-- which rows begin with a scan: HH, H, L, LL, ROCPos, ROCNeg
+abbrev pub rowBegins : ℕ → Bool → ℕ → ℕ → Bool
+rowBegins flags enabled met k = (enabled && bit met (3 * k)) && not (bit flags (8 + 3 * k))
+
+-- the runs of the high and the low side, then those rows
+abbrev pub allBegin : ℕ → Bool → ℕ → List Bool
+allBegin flags enabled met =
+    (enabled && (bit met 0 || bit met 3) && not (bit flags 4)) ∷ (enabled && (bit met 6 || bit met 9) && not (bit flags 5))
+    ∷ rowBegins flags enabled met 0 ∷ rowBegins flags enabled met 1 ∷ rowBegins flags enabled met 2 ∷ rowBegins flags enabled met 3
+    ∷ rowBegins flags enabled met 4 ∷ rowBegins flags enabled met 5 ∷ []
+
+-- ---- the sample
+
+-- the stored sample stays, by the flags and its time
+abbrev pub staysIn : ℕ → ℕ → ℕ → ℕ → Bool
+staysIn flags period sampled time = bit flags 3 && not (leb period (time - sampled))
+
+-- the pattern of the rate after a scan, by the word of sample and rate
+unfoldable pub rateIn : ℕ → Bool → ℕ → ℕ → ℕ → Float → ℕ → ℕ
+rateIn flags enabled period pair sampled x time =
+    cond (enabled && staysIn flags period sampled time) (upperOf pair)
+    (cond (enabled && bit flags 3) (toBits binary32 (newRate period (ofBits binary32 (lowerOf pair)) x)) 0)
+
+-- the word of sample and rate
+abbrev pub sampleIn : ℕ → Bool → ℕ → ℕ → ℕ → Float → ℕ → ℕ
+sampleIn flags enabled period pair sampled x time =
+    pairOf (cond (staysIn flags period sampled time) (lowerOf pair) (toBits binary32 x)) (rateIn flags enabled period pair sampled x time)
+
+-- and that of the sample's time
+abbrev pub sampledIn : ℕ → ℕ → ℕ → ℕ → ℕ
+sampledIn flags period sampled time = cond (staysIn flags period sampled time) sampled time
+
+-- ---- the conditions
+
+-- a level: its side's run has lasted, or its side had a condition in alarm; a rate always
+unfoldable pub readyBits : ℕ → ℕ → ℕ → ℕ → ℕ → List Bool
+readyBits flags high low duration time =
+    (leb duration (time - high) || (bit flags 6 || bit flags 9)) ∷ (leb duration (time - high) || (bit flags 6 || bit flags 9))
+    ∷ (leb duration (time - low) || (bit flags 12 || bit flags 15)) ∷ (leb duration (time - low) || (bit flags 12 || bit flags 15))
+    ∷ true ∷ true ∷ []
+
+-- when the runs began that a scan goes on with, or begins
+abbrev pub readyIn : ℕ → ℕ → ℕ → ℕ → ℕ → ℕ
+readyIn flags high low duration time =
+    wordOf (spread (readyBits flags (cond (bit flags 4) high time) (cond (bit flags 5) low time) duration time))
+
+-- the modes after a scan say that the alarm is enabled
+abbrev pub enabledIn : ℕ → Bool
+enabledIn modes = not (eqb (modes % 2) 1)
+
+-- the six conditions
+unfoldable pub decided : ℕ → ℕ → ℕ → ℕ → ℕ → ℕ → ℕ → Bool → ℕ → ℕ → Cells
+decided first high low modes met frees duration required word time =
+    cellsOf (lowerOf first) (enabledIn modes) met frees (readyIn (lowerOf first) high low duration time) (wordOf (spread (ackBits word (upperOf first)))) required
+
+-- the flags after a scan
+abbrev pub flagsAfter : ℕ → ℕ → Cells → ℕ
+flagsAfter modes met six =
+    modes % 8
+    + 8 * wordOf (enabledIn modes ∷ (enabledIn modes && (bit met 0 || bit met 3)) ∷ (enabledIn modes && (bit met 6 || bit met 9)) ∷ [])
+    + 64 * six .kept

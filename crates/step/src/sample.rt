@@ -1,0 +1,75 @@
+// The rate sample: its value and its rate by their patterns, and its time.
+ghost use mathlib.Core.Path.{_≡_};
+ghost use mathlib.Core.Bool.{cond};
+ghost use mathlib.Core.List.{[], _∷_};
+ghost use Prim.Native.Nat.{_+_, _≤_};
+ghost use lib.ListN.{length, getD};
+ghost use lib.Seq.{sets};
+ghost use lib.Ieee.{binary32, toBits};
+ghost use Rattle.step.specs.Internal.Packed.{staysIn, rateIn, sampleIn, sampledIn};
+use condition::row::choose;
+use condition::row::elapsed;
+use layout::half::lower;
+use layout::half::pair;
+use layout::half::upper;
+use level::rate::rate_pattern;
+use wire::real::to_pattern;
+
+// Whether the stored sample stays.
+fn stays_in(flags: u32, period: u32, sampled: u64, time: u64) -> bool
+    ensures { λ r. ⌜ r ≡ staysIn flags period sampled time ⌝ }
+{
+    (flags / 8 % 2 == 1) & !(period as u64 <= elapsed(sampled, time))
+}
+
+// The rate's pattern after a scan. Most scans keep it.
+fn rate_in(
+    flags: u32,
+    enabled: bool,
+    period: u32,
+    stored: u64,
+    sampled: u64,
+    x: f32,
+    time: u64,
+) -> u32
+    ensures { λ r. ⌜ r ≡ rateIn flags enabled period stored sampled x time ⌝ }
+{
+    if enabled & stays_in(flags, period, sampled, time) {
+        return upper(stored);
+    }
+    if enabled & (flags / 8 % 2 == 1) {
+        return rate_pattern(period, lower(stored), x);
+    }
+    0
+}
+
+// The pattern that stays, or that of a REAL.
+fn value_in(stays: bool, pattern: u32, x: f32) -> u32
+    ensures { λ r. ⌜ r ≡ cond stays pattern (toBits binary32 x) ⌝ }
+{
+    if stays { pattern } else { to_pattern(x) }
+}
+
+// Stores the sample after a scan in the two words from `at` on, and answers the pattern of the rate.
+pub fn resample(
+    states: &mut [u64],
+    at: usize,
+    flags: u32,
+    enabled: bool,
+    period: u32,
+    x: f32,
+    time: u64,
+) -> u32
+    requires { ⌜ at + 2 ≤ length (now states) ⌝ }
+    ensures { λ r. ⌜ r ≡ rateIn flags enabled period (getD (now (states .entry)) at 0) (getD (now (states .entry)) (at + 1) 0) x time ⌝ }
+    ensures { λ _. ⌜ now (states .exit) ≡ sets (now (states .entry)) at (sampleIn flags enabled period (getD (now (states .entry)) at 0) (getD (now (states .entry)) (at + 1) 0) x time ∷ sampledIn flags period (getD (now (states .entry)) (at + 1) 0) time ∷ []) ⌝ }
+{
+    let stored = states[at];
+    let sampled = states[at + 1];
+    let rate = rate_in(flags, enabled, period, stored, sampled, x, time);
+    let stays = stays_in(flags, period, sampled, time);
+    let value = value_in(stays, lower(stored), x);
+    states[at] = pair(value, rate);
+    states[at + 1] = choose(stays, sampled, time);
+    rate
+}
