@@ -74,9 +74,9 @@ static int load(struct meifgur_bank *bank, struct meifgur_loaded *loaded)
     struct meifgur_written written;
     uint8_t copy[MEIFGUR_IMAGE_MOST];
 
-    if (meifgur_bank_load(bank, image, sizeof image, loaded) != MEIFGUR_OK)
+    if (meifgur_load(bank, image, sizeof image, loaded) != MEIFGUR_OK)
         return fail("settings refused", loaded->number, loaded->place);
-    if (meifgur_bank_write(bank, copy, sizeof copy, &written) != MEIFGUR_OK)
+    if (meifgur_write(bank, copy, sizeof copy, &written) != MEIFGUR_OK)
         return fail("settings not written", written.number, written.place);
     if (written.length != sizeof image || memcmp(copy, image, sizeof image) != 0)
         return fail("settings written otherwise", written.length, 0);
@@ -92,7 +92,7 @@ static int scan(struct meifgur_bank *bank, const struct scan *s)
     put(record, s->time, 8);
     put(record + 8, s->reading, 1);
     put(record + 9, s->command, 4);
-    if (meifgur_bank_scan(bank, record, sizeof record, events, sizeof events, &scanned) != MEIFGUR_OK)
+    if (meifgur_scan(bank, record, sizeof record, events, sizeof events, &scanned) != MEIFGUR_OK)
         return fail("record refused", scanned.number, scanned.place);
     for (uint64_t i = 0; i < scanned.events; i++)
         print_event(events + MEIFGUR_EVENT_SIZE * i);
@@ -102,7 +102,7 @@ static int scan(struct meifgur_bank *bank, const struct scan *s)
 static int report(const struct meifgur_bank *bank, size_t alarm, uint8_t bytes[MEIFGUR_REPORT_SIZE])
 {
     struct meifgur_reported reported;
-    if (meifgur_bank_report(bank, alarm, bytes, &reported) != MEIFGUR_OK)
+    if (meifgur_report(bank, alarm, bytes, &reported) != MEIFGUR_OK)
         return fail("report refused", reported.number, reported.place);
     return 0;
 }

@@ -67,7 +67,7 @@ static void make_records(void)
 static void load(void)
 {
     struct meifgur_loaded answer;
-    refused += meifgur_bank_load(&bank, image, sizeof image, &answer) != MEIFGUR_OK;
+    refused += meifgur_load(&bank, image, sizeof image, &answer) != MEIFGUR_OK;
 }
 
 /* The whole drive, scan by scan, with an event buffer of so many bytes; 1 if any was refused with another number than `but`. */
@@ -76,7 +76,7 @@ static int scans_refused(size_t room, uint32_t but)
     struct meifgur_scanned answer;
     int others = 0;
     for (int scan = 0; scan < SCANS; scan++) {
-        uint32_t code = meifgur_bank_scan(&bank, records + scan * RECORD, RECORD, events, room, &answer);
+        uint32_t code = meifgur_scan(&bank, records + scan * RECORD, RECORD, events, room, &answer);
         others |= code != MEIFGUR_OK && code != but;
     }
     return others;
@@ -98,19 +98,19 @@ static void report_each(void)
 {
     struct meifgur_reported answer;
     for (size_t n = 1; n <= MEIFGUR_ALARMS_MOST; n++)
-        refused += meifgur_bank_report(&bank, n, report, &answer) != MEIFGUR_OK;
+        refused += meifgur_report(&bank, n, report, &answer) != MEIFGUR_OK;
 }
 
 static void write_image(void)
 {
     struct meifgur_written answer;
-    refused += meifgur_bank_write(&bank, out, sizeof out, &answer) != MEIFGUR_OK;
+    refused += meifgur_write(&bank, out, sizeof out, &answer) != MEIFGUR_OK;
 }
 
 static void replay(void)
 {
     struct meifgur_replayed answer;
-    refused += meifgur_bank_replay(&bank, records, sizeof records, events, sizeof events, &answer) != MEIFGUR_OK;
+    refused += meifgur_replay(&bank, records, sizeof records, events, sizeof events, &answer) != MEIFGUR_OK;
 }
 
 static const struct measured {

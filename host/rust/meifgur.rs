@@ -49,7 +49,7 @@ mod raw {
         pub fn meifgur_states_words() -> u32;
         pub fn meifgur_marks_words() -> u32;
         pub fn meifgur_record_length(digital: usize, analog: usize) -> usize;
-        pub fn meifgur_load(
+        pub fn meifgur_load_words(
             image: *const u8,
             image_length: usize,
             settings: *mut u64,
@@ -61,7 +61,7 @@ mod raw {
             answer: *mut u64,
             answer_words: usize,
         ) -> u32;
-        pub fn meifgur_scan(
+        pub fn meifgur_scan_words(
             settings: *const u64,
             settings_words: usize,
             states: *mut u64,
@@ -75,7 +75,7 @@ mod raw {
             answer: *mut u64,
             answer_words: usize,
         ) -> u32;
-        pub fn meifgur_report(
+        pub fn meifgur_report_words(
             settings: *const u64,
             settings_words: usize,
             states: *const u64,
@@ -88,7 +88,7 @@ mod raw {
             answer: *mut u64,
             answer_words: usize,
         ) -> u32;
-        pub fn meifgur_write(
+        pub fn meifgur_write_words(
             settings: *const u64,
             settings_words: usize,
             out: *mut u8,
@@ -96,7 +96,7 @@ mod raw {
             answer: *mut u64,
             answer_words: usize,
         ) -> u32;
-        pub fn meifgur_replay(
+        pub fn meifgur_replay_words(
             settings: *const u64,
             settings_words: usize,
             states: *mut u64,
@@ -312,7 +312,7 @@ pub fn load_words(
     answer: &mut [u64],
 ) -> u32 {
     unsafe {
-        raw::meifgur_load(
+        raw::meifgur_load_words(
             image.as_ptr(),
             image.len(),
             settings.as_mut_ptr(),
@@ -335,7 +335,7 @@ pub fn scan_words(
     events: &mut [u8],
     answer: &mut [u64],
 ) -> u32 {
-    let call = raw::meifgur_scan;
+    let call = raw::meifgur_scan_words;
     run_words(call, settings, states, marks, record, events, answer)
 }
 
@@ -348,7 +348,7 @@ pub fn report_words(
     answer: &mut [u64],
 ) -> u32 {
     unsafe {
-        raw::meifgur_report(
+        raw::meifgur_report_words(
             settings.as_ptr(),
             settings.len(),
             states.as_ptr(),
@@ -366,7 +366,7 @@ pub fn report_words(
 
 pub fn write_words(settings: &[u64], out: &mut [u8], answer: &mut [u64]) -> u32 {
     unsafe {
-        raw::meifgur_write(
+        raw::meifgur_write_words(
             settings.as_ptr(),
             settings.len(),
             out.as_mut_ptr(),
@@ -385,7 +385,7 @@ pub fn replay_words(
     events: &mut [u8],
     answer: &mut [u64],
 ) -> u32 {
-    let call = raw::meifgur_replay;
+    let call = raw::meifgur_replay_words;
     run_words(call, settings, states, marks, records, events, answer)
 }
 

@@ -6,9 +6,9 @@
  * crates/meifgur_c/specs: every result, and every byte and word of each lent buffer, for input of any length and content.
  *
  *   static struct meifgur_bank bank;
- *   meifgur_bank_load(&bank, image, image_length, &loaded);
- *   meifgur_bank_scan(&bank, record, record_length, events, sizeof events, &scanned);   for each record, as it comes
- *   meifgur_bank_report(&bank, 1, report, &reported);                                   whenever somebody asks
+ *   meifgur_load(&bank, image, image_length, &loaded);
+ *   meifgur_scan(&bank, record, record_length, events, sizeof events, &scanned);   for each record, as it comes
+ *   meifgur_report(&bank, 1, report, &reported);                                   whenever somebody asks
  *
  * State: a bank is the words of a struct meifgur_bank, which the caller keeps; nothing else is kept between calls.
  * Nothing is allocated, no file, clock or lock is touched. How much stack the calls use stands below, as measured.
@@ -102,8 +102,9 @@ extern "C" {
  *   writing   13 buffer shorter than the image: 0
  *   report    14 no such alarm: 0
  *
- * A refused call leaves every word of the bank and every byte lent as it was, and says in its answer why; 40 and 41 leave the
- * answer too. Where several refusals apply, 40 comes first, then 41, then 42. Words behind an answer's own stay.
+ * A refused call says in its answer why and leaves every byte lent as it was, and every word of the bank, unless it is a
+ * refused image (see meifgur_load_words); 40 and 41 leave the answer too. Where several refusals apply, 40 comes first,
+ * then 41, then 42. Words behind an answer's own stay.
  */
 
 /* A bank of alarms. It is large: keep it static or within a struct of your own. Leave its words to the calls. */
@@ -149,7 +150,7 @@ struct meifgur_replayed {
 
 /*
  * The calls of the archive, by blocks: settings, states, marks, each with its number of words. With a struct meifgur_bank
- * use the functions meifgur_bank_* further below, which pass its blocks.
+ * use meifgur_load, meifgur_scan and so on further below, which pass its blocks.
  */
 
 /*
@@ -158,11 +159,11 @@ struct meifgur_replayed {
  *
  * answer: number, place, digital, analog. Returns 0, 1 to 6, 40, or 42 for a wrong length.
  */
-uint32_t meifgur_load(const uint8_t *image, size_t image_length,
-                      uint64_t *settings, size_t settings_words,
-                      uint64_t *states, size_t states_words,
-                      uint64_t *marks, size_t marks_words,
-                      uint64_t *answer, size_t answer_words);
+uint32_t meifgur_load_words(const uint8_t *image, size_t image_length,
+                            uint64_t *settings, size_t settings_words,
+                            uint64_t *states, size_t states_words,
+                            uint64_t *marks, size_t marks_words,
+                            uint64_t *answer, size_t answer_words);
 
 /*
  * Runs one record as a scan. `events` gets event records from its front on; the bytes behind them stay. With 3840 bytes
@@ -170,33 +171,33 @@ uint32_t meifgur_load(const uint8_t *image, size_t image_length,
  *
  * answer: number, place, events. Returns 0, 7 to 12, 40 or 42.
  */
-uint32_t meifgur_scan(const uint64_t *settings, size_t settings_words,
-                      uint64_t *states, size_t states_words,
-                      uint64_t *marks, size_t marks_words,
-                      const uint8_t *record, size_t record_length,
-                      uint8_t *events, size_t events_length,
-                      uint64_t *answer, size_t answer_words);
+uint32_t meifgur_scan_words(const uint64_t *settings, size_t settings_words,
+                            uint64_t *states, size_t states_words,
+                            uint64_t *marks, size_t marks_words,
+                            const uint8_t *record, size_t record_length,
+                            uint8_t *events, size_t events_length,
+                            uint64_t *answer, size_t answer_words);
 
 /*
  * Writes the report of alarm `alarm` to the front of `report`; the bytes behind it stay.
  *
  * answer: number, place. Returns 0, 14, 40, 41 or 42.
  */
-uint32_t meifgur_report(const uint64_t *settings, size_t settings_words,
-                        const uint64_t *states, size_t states_words,
-                        const uint64_t *marks, size_t marks_words,
-                        size_t alarm,
-                        uint8_t *report, size_t report_length,
-                        uint64_t *answer, size_t answer_words);
+uint32_t meifgur_report_words(const uint64_t *settings, size_t settings_words,
+                              const uint64_t *states, size_t states_words,
+                              const uint64_t *marks, size_t marks_words,
+                              size_t alarm,
+                              uint8_t *report, size_t report_length,
+                              uint64_t *answer, size_t answer_words);
 
 /*
  * Writes the bank's settings image to the front of `out`: the image that was loaded. The bytes behind it stay.
  *
  * answer: number, place, length. Returns 0, 13, 40 or 42.
  */
-uint32_t meifgur_write(const uint64_t *settings, size_t settings_words,
-                       uint8_t *out, size_t out_length,
-                       uint64_t *answer, size_t answer_words);
+uint32_t meifgur_write_words(const uint64_t *settings, size_t settings_words,
+                             uint8_t *out, size_t out_length,
+                             uint64_t *answer, size_t answer_words);
 
 /*
  * Runs each record of `records` as a scan, one after the other.
@@ -209,12 +210,12 @@ uint32_t meifgur_write(const uint64_t *settings, size_t settings_words,
  * answer: events, refused, and of the first refused record number, place and index. Returns 0, with refused records too;
  * 40; or 42, which is then the answer's number, with its place, and the other three are 0.
  */
-uint32_t meifgur_replay(const uint64_t *settings, size_t settings_words,
-                        uint64_t *states, size_t states_words,
-                        uint64_t *marks, size_t marks_words,
-                        const uint8_t *records, size_t records_length,
-                        uint8_t *events, size_t events_length,
-                        uint64_t *answer, size_t answer_words);
+uint32_t meifgur_replay_words(const uint64_t *settings, size_t settings_words,
+                              uint64_t *states, size_t states_words,
+                              uint64_t *marks, size_t marks_words,
+                              const uint8_t *records, size_t records_length,
+                              uint8_t *events, size_t events_length,
+                              uint64_t *answer, size_t answer_words);
 
 /* Bytes of a scan record for so many alarms of each kind: 8 + 5 * digital + 8 * analog; 8 if one of them is over 12. */
 size_t meifgur_record_length(size_t digital, size_t analog);
@@ -239,42 +240,43 @@ static inline int meifgur_sizes_agree(void)
 
 /* The calls above on a struct meifgur_bank. An answer's fields are the words that the call writes, in their order. */
 
-static inline uint32_t meifgur_bank_load(struct meifgur_bank *bank, const uint8_t *image, size_t image_length,
-                                         struct meifgur_loaded *answer)
+static inline uint32_t meifgur_load(struct meifgur_bank *bank, const uint8_t *image, size_t image_length,
+                                    struct meifgur_loaded *answer)
 {
-    return meifgur_load(image, image_length, bank->settings, MEIFGUR_SETTINGS_WORDS, bank->states, MEIFGUR_STATES_WORDS,
-                        bank->marks, MEIFGUR_MARKS_WORDS, (uint64_t *)answer, MEIFGUR_LOAD_ANSWER);
+    return meifgur_load_words(image, image_length, bank->settings, MEIFGUR_SETTINGS_WORDS, bank->states,
+                              MEIFGUR_STATES_WORDS, bank->marks, MEIFGUR_MARKS_WORDS, (uint64_t *)answer,
+                              MEIFGUR_LOAD_ANSWER);
 }
 
-static inline uint32_t meifgur_bank_scan(struct meifgur_bank *bank, const uint8_t *record, size_t record_length,
-                                         uint8_t *events, size_t events_length, struct meifgur_scanned *answer)
+static inline uint32_t meifgur_scan(struct meifgur_bank *bank, const uint8_t *record, size_t record_length,
+                                    uint8_t *events, size_t events_length, struct meifgur_scanned *answer)
 {
-    return meifgur_scan(bank->settings, MEIFGUR_SETTINGS_WORDS, bank->states, MEIFGUR_STATES_WORDS, bank->marks,
-                        MEIFGUR_MARKS_WORDS, record, record_length, events, events_length, (uint64_t *)answer,
-                        MEIFGUR_SCAN_ANSWER);
+    return meifgur_scan_words(bank->settings, MEIFGUR_SETTINGS_WORDS, bank->states, MEIFGUR_STATES_WORDS, bank->marks,
+                              MEIFGUR_MARKS_WORDS, record, record_length, events, events_length, (uint64_t *)answer,
+                              MEIFGUR_SCAN_ANSWER);
 }
 
-static inline uint32_t meifgur_bank_report(const struct meifgur_bank *bank, size_t alarm,
-                                           uint8_t report[MEIFGUR_REPORT_SIZE], struct meifgur_reported *answer)
+static inline uint32_t meifgur_report(const struct meifgur_bank *bank, size_t alarm,
+                                      uint8_t report[MEIFGUR_REPORT_SIZE], struct meifgur_reported *answer)
 {
-    return meifgur_report(bank->settings, MEIFGUR_SETTINGS_WORDS, bank->states, MEIFGUR_STATES_WORDS, bank->marks,
-                          MEIFGUR_MARKS_WORDS, alarm, report, MEIFGUR_REPORT_SIZE, (uint64_t *)answer,
-                          MEIFGUR_REPORT_ANSWER);
+    return meifgur_report_words(bank->settings, MEIFGUR_SETTINGS_WORDS, bank->states, MEIFGUR_STATES_WORDS, bank->marks,
+                                MEIFGUR_MARKS_WORDS, alarm, report, MEIFGUR_REPORT_SIZE, (uint64_t *)answer,
+                                MEIFGUR_REPORT_ANSWER);
 }
 
-static inline uint32_t meifgur_bank_write(const struct meifgur_bank *bank, uint8_t *out, size_t out_length,
-                                          struct meifgur_written *answer)
+static inline uint32_t meifgur_write(const struct meifgur_bank *bank, uint8_t *out, size_t out_length,
+                                     struct meifgur_written *answer)
 {
-    return meifgur_write(bank->settings, MEIFGUR_SETTINGS_WORDS, out, out_length, (uint64_t *)answer,
-                         MEIFGUR_WRITE_ANSWER);
+    return meifgur_write_words(bank->settings, MEIFGUR_SETTINGS_WORDS, out, out_length, (uint64_t *)answer,
+                               MEIFGUR_WRITE_ANSWER);
 }
 
-static inline uint32_t meifgur_bank_replay(struct meifgur_bank *bank, const uint8_t *records, size_t records_length,
-                                           uint8_t *events, size_t events_length, struct meifgur_replayed *answer)
+static inline uint32_t meifgur_replay(struct meifgur_bank *bank, const uint8_t *records, size_t records_length,
+                                      uint8_t *events, size_t events_length, struct meifgur_replayed *answer)
 {
-    return meifgur_replay(bank->settings, MEIFGUR_SETTINGS_WORDS, bank->states, MEIFGUR_STATES_WORDS, bank->marks,
-                          MEIFGUR_MARKS_WORDS, records, records_length, events, events_length, (uint64_t *)answer,
-                          MEIFGUR_REPLAY_ANSWER);
+    return meifgur_replay_words(bank->settings, MEIFGUR_SETTINGS_WORDS, bank->states, MEIFGUR_STATES_WORDS, bank->marks,
+                                MEIFGUR_MARKS_WORDS, records, records_length, events, events_length, (uint64_t *)answer,
+                                MEIFGUR_REPLAY_ANSWER);
 }
 
 #ifdef __cplusplus

@@ -19,7 +19,7 @@ fn word_at(words: &[u64], at: usize) -> u64
 
 // Writes the bank of a settings image, or of a refused one a bank without alarms. Blocks of other lengths are left.
 #[no_mangle]
-pub extern "C" fn meifgur_load(
+pub extern "C" fn meifgur_load_words(
     image: &[u8],
     settings: &mut [u64],
     states: &mut [u64],

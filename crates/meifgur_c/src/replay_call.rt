@@ -13,7 +13,7 @@ use replay::replay::replay;
 // Runs each record of `records` as a scan of its own and passes over those that are refused; the events stand one after the
 // other in `events`.
 #[no_mangle]
-pub extern "C" fn meifgur_replay(
+pub extern "C" fn meifgur_replay_words(
     settings: &[u64],
     states: &mut [u64],
     marks: &mut [u64],

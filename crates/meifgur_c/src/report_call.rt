@@ -32,7 +32,7 @@ fn put_said(out: &mut [u8], said: AlarmReport)
 
 // Fills the front of `out` with the 224 bytes of an alarm's report, or refuses and leaves every byte.
 #[no_mangle]
-pub extern "C" fn meifgur_report(
+pub extern "C" fn meifgur_report_words(
     settings: &[u64],
     states: &[u64],
     marks: &[u64],

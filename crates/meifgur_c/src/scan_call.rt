@@ -11,7 +11,7 @@ use bank::scan::scan;
 
 // Runs one scan record in place and fills the front of `events`, or refuses and leaves every word and byte.
 #[no_mangle]
-pub extern "C" fn meifgur_scan(
+pub extern "C" fn meifgur_scan_words(
     settings: &[u64],
     states: &mut [u64],
     marks: &mut [u64],

@@ -1,4 +1,4 @@
--- `meifgur_c::report_call::meifgur_report` meets its contract. Assumes nothing.
+-- `meifgur_c::report_call::meifgur_report_words` meets its contract. Assumes nothing.
 use borrow.Author.Needs.{needs}
 use borrow.Author.Tests.{lt-ltb, le-ltb}
 use denote.Ref.{now}
@@ -9,8 +9,8 @@ use lib.ListN.{length, getD}
 use lib.Seq.{sets}
 use Rattle.report.specs.declared.report.AlarmReport.{AlarmReport}
 use Rattle.meifgur_c.specs.Calls.{replyNumber, replyWords, reportOut}
-use Rattle.meifgur_c.proofs.report_call.meifgur_report.Statement.{statement}
-use Rattle.meifgur_c.proofs.report_call.meifgur_report.Tie as tie
+use Rattle.meifgur_c.proofs.report_call.meifgur_report_words.Statement.{statement}
+use Rattle.meifgur_c.proofs.report_call.meifgur_report_words.Tie as tie
 
 returns : tie.Need-returns
 returns c = rw (lt-ltb (length (now (c .before .before .before .before .before .before .args .answer))) 2 (c .if1 .taken)) (refl, (refl, refl))
@@ -28,8 +28,8 @@ returns-3 c =
       (c .before .before .before .before .before .before .put-said .ensures ∙ ap (λ (q : AlarmReport). reportOut q (now (a .out))) r, f .1 ∙ ap (λ (q : AlarmReport). sets (now (a .answer)) 0 (replyWords (q .reply) [])) r),
     )
 
-pub meifgur-report-spec : {M : Type 1} → statement M
-meifgur-report-spec =
+pub meifgur-report-words-spec : {M : Type 1} → statement M
+meifgur-report-words-spec =
     tie.close
     (tie.spec
     returns

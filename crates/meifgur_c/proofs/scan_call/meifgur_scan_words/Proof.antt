@@ -1,4 +1,4 @@
--- `meifgur_c::scan_call::meifgur_scan` meets its contract. Assumes nothing.
+-- `meifgur_c::scan_call::meifgur_scan_words` meets its contract. Assumes nothing.
 use borrow.Author.Needs.{needs}
 use borrow.Author.Tests.{lt-ltb, le-ltb}
 use denote.Ref.{now}
@@ -9,8 +9,8 @@ use lib.ListN.{length, getD}
 use lib.Seq.{sets}
 use Rattle.bank.specs.declared.answer.Answer.{Answer}
 use Rattle.meifgur_c.specs.Calls.{scanNumber, scanAnswer}
-use Rattle.meifgur_c.proofs.scan_call.meifgur_scan.Statement.{statement}
-use Rattle.meifgur_c.proofs.scan_call.meifgur_scan.Tie as tie
+use Rattle.meifgur_c.proofs.scan_call.meifgur_scan_words.Statement.{statement}
+use Rattle.meifgur_c.proofs.scan_call.meifgur_scan_words.Tie as tie
 
 returns : tie.Need-returns
 returns c = rw (lt-ltb (length (now (c .before .before .before .before .before .before .before .args .answer))) 3 (c .if1 .taken)) (refl, (refl, (refl, (refl, refl))))
@@ -23,8 +23,8 @@ returns-2 c =
     rw (le-ltb (length (now (a .answer))) 3 (c .before .before .before .before .before .before .before .before .before .before .before .before .before .before .if1 .left))
     (f .0 ∙ ap scanNumber (e .0), (e .1 .0, (e .1 .1 .0, (e .1 .1 .1, f .1 ∙ ap (λ (r : Answer). sets (now (a .answer)) 0 (scanAnswer r)) (e .0)))))
 
-pub meifgur-scan-spec : {M : Type 1} → statement M
-meifgur-scan-spec =
+pub meifgur-scan-words-spec : {M : Type 1} → statement M
+meifgur-scan-words-spec =
     tie.close
     (tie.spec
     returns

@@ -1,4 +1,4 @@
--- `meifgur_c::load_call::meifgur_load` meets its contract. Assumes nothing.
+-- `meifgur_c::load_call::meifgur_load_words` meets its contract. Assumes nothing.
 use borrow.Author.Needs.{needs}
 use borrow.Author.Tests.{lt-ltb, le-ltb}
 use denote.Ref.{now}
@@ -8,8 +8,8 @@ use Prim.Native.Nat.{ℕ}
 use lib.ListN.{length, getD}
 use lib.Seq.{sets}
 use Rattle.meifgur_c.specs.Calls.{replyNumber, replyWords}
-use Rattle.meifgur_c.proofs.load_call.meifgur_load.Statement.{statement}
-use Rattle.meifgur_c.proofs.load_call.meifgur_load.Tie as tie
+use Rattle.meifgur_c.proofs.load_call.meifgur_load_words.Statement.{statement}
+use Rattle.meifgur_c.proofs.load_call.meifgur_load_words.Tie as tie
 
 returns : tie.Need-returns
 returns c = rw (lt-ltb (length (now (c .before .before .before .before .before .before .args .answer))) 4 (c .if1 .taken)) (refl, (refl, (refl, (refl, refl))))
@@ -26,8 +26,8 @@ returns-2 c =
       (e .1 .0, (e .1 .1 .0, (e .1 .1 .1, f .1 ∙ (λ i. sets (now (a .answer)) 0 (replyWords (e .0 i) (d i ∷ n i ∷ [])))))),
     )
 
-pub meifgur-load-spec : {M : Type 1} → statement M
-meifgur-load-spec =
+pub meifgur-load-words-spec : {M : Type 1} → statement M
+meifgur-load-words-spec =
     tie.close
     (tie.spec
     returns

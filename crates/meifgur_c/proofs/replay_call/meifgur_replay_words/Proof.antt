@@ -1,4 +1,4 @@
--- `meifgur_c::replay_call::meifgur_replay` meets its contract. Assumes nothing.
+-- `meifgur_c::replay_call::meifgur_replay_words` meets its contract. Assumes nothing.
 use borrow.Author.Needs.{needs}
 use borrow.Author.Tests.{lt-ltb, le-ltb}
 use denote.Ref.{now}
@@ -7,8 +7,8 @@ use lib.ListN.{length}
 use lib.Seq.{sets}
 use Rattle.replay.specs.declared.replay.Replayed.{Replayed}
 use Rattle.meifgur_c.specs.Calls.{replyNumber, replayAnswer}
-use Rattle.meifgur_c.proofs.replay_call.meifgur_replay.Statement.{statement}
-use Rattle.meifgur_c.proofs.replay_call.meifgur_replay.Tie as tie
+use Rattle.meifgur_c.proofs.replay_call.meifgur_replay_words.Statement.{statement}
+use Rattle.meifgur_c.proofs.replay_call.meifgur_replay_words.Tie as tie
 
 returns : tie.Need-returns
 returns c = rw (lt-ltb (length (now (c .before .before .before .before .before .before .before .args .answer))) 5 (c .if1 .taken)) (refl, (refl, (refl, (refl, refl))))
@@ -23,8 +23,8 @@ returns-2 c =
       (e .1 .0, (e .1 .1 .0, (e .1 .1 .1, f .1 ∙ ap (λ (r : Replayed). sets (now (a .answer)) 0 (replayAnswer r)) (e .0)))),
     )
 
-pub meifgur-replay-spec : {M : Type 1} → statement M
-meifgur-replay-spec =
+pub meifgur-replay-words-spec : {M : Type 1} → statement M
+meifgur-replay-words-spec =
     tie.close
     (tie.spec
     returns
