@@ -151,7 +151,7 @@ pub fn record_length(digital: usize, analog: usize) -> usize {
 /// A refusal by its number and place.
 #[derive(Clone, Copy, Debug, PartialEq, Eq)]
 pub struct Refusal {
-    pub number: u64,
+    pub number: u32,
     pub place: u64,
 }
 
@@ -194,9 +194,9 @@ impl Bank {
             states,
             marks,
         } = self;
-        load_words(image, settings, states, marks, &mut answer);
-        let [number, place, digital, analog] = answer;
-        unless_refused(number, place)?;
+        let code = load_words(image, settings, states, marks, &mut answer);
+        let [_, place, digital, analog] = answer;
+        unless_refused(code, place)?;
         Ok(Counts {
             digital: digital as usize,
             analog: analog as usize,
@@ -207,7 +207,7 @@ impl Bank {
     /// bank and buffer.
     pub fn scan(&mut self, record: &[u8], events: &mut [u8]) -> Result<usize, Refusal> {
         let mut answer = [0; SCAN_ANSWER];
-        scan_words(
+        let code = scan_words(
             &self.settings,
             &mut self.states,
             &mut self.marks,
@@ -215,8 +215,8 @@ impl Bank {
             events,
             &mut answer,
         );
-        let [number, place, events] = answer;
-        unless_refused(number, place)?;
+        let [_, place, events] = answer;
+        unless_refused(code, place)?;
         Ok(events as usize)
     }
 
@@ -224,7 +224,7 @@ impl Bank {
     pub fn report(&self, alarm: usize) -> Result<[u8; REPORT_SIZE], Refusal> {
         let mut report = [0; REPORT_SIZE];
         let mut answer = [0; REPORT_ANSWER];
-        report_words(
+        let code = report_words(
             &self.settings,
             &self.states,
             &self.marks,
@@ -232,17 +232,17 @@ impl Bank {
             &mut report,
             &mut answer,
         );
-        let [number, place] = answer;
-        unless_refused(number, place)?;
+        let [_, place] = answer;
+        unless_refused(code, place)?;
         Ok(report)
     }
 
     /// Writes the settings image to the front of `out` and gives its length. A refusal leaves `out`.
     pub fn write(&self, out: &mut [u8]) -> Result<usize, Refusal> {
         let mut answer = [0; WRITE_ANSWER];
-        write_words(&self.settings, out, &mut answer);
-        let [number, place, length] = answer;
-        unless_refused(number, place)?;
+        let code = write_words(&self.settings, out, &mut answer);
+        let [_, place, length] = answer;
+        unless_refused(code, place)?;
         Ok(length as usize)
     }
 
@@ -258,11 +258,13 @@ impl Bank {
             &mut answer,
         );
         let [events, refused, number, place, index] = answer;
-        unless_refused(code.into(), place)?;
+        unless_refused(code, place)?;
         Ok(Replayed {
             events: events as usize,
             refused,
-            first: unless_refused(number, place).err().map(|r| (r, index)),
+            first: unless_refused(number as u32, place)
+                .err()
+                .map(|r| (r, index)),
         })
     }
 
@@ -293,8 +295,8 @@ impl Bank {
     }
 }
 
-/// The refusal that an answer's number and place say, if they say one.
-fn unless_refused(number: u64, place: u64) -> Result<(), Refusal> {
+/// The refusal by its number, unless that is 0. Of a call it is the return code, for 40 and 41 leave the answer.
+fn unless_refused(number: u32, place: u64) -> Result<(), Refusal> {
     match number {
         0 => Ok(()),
         _ => Err(Refusal { number, place }),

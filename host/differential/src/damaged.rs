@@ -71,7 +71,7 @@ fn is_sound(reply: &Reply) -> bool {
         Call::Replay => (0..=0, REPLAY_ANSWER),
     };
     let words = match reply.code {
-        ANSWER_SHORT => 0,
+        ANSWER_SHORT | REPORT_SHORT => 0,
         _ => words,
     };
     let others = [0, ANSWER_SHORT, REPORT_SHORT];

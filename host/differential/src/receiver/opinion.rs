@@ -64,13 +64,15 @@ impl Receiver for Opinion {
         })
     }
 
+    /// A buffer too short for a report leaves the answer, as an answer that is too short does.
     fn report(&mut self, alarm: usize, report: &mut [u8], answer: &mut [u64]) -> u32 {
+        if answer.len() < REPORT_ANSWER {
+            return ANSWER_SHORT;
+        }
+        let Some(front) = report.first_chunk_mut::<REPORT_LEN>() else {
+            return REPORT_SHORT;
+        };
         answered::<REPORT_ANSWER>(answer, || {
-            let short = Refusal {
-                number: REPORT_SHORT,
-                place: 0,
-            };
-            let front = report.first_chunk_mut::<REPORT_LEN>().ok_or(short)?;
             *front = self.bank()?.report(alarm as u64)?.to_bytes();
             Ok([0, 0])
         })
