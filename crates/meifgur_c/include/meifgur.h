@@ -78,12 +78,12 @@ extern "C" {
  * Bytes of stack, measured on a full bank and rounded up (host/c/stack.c measures them). A scan may use more where its
  * event buffer is shorter than 3840 bytes.
  */
-#define MEIFGUR_LOAD_STACK 0u
-#define MEIFGUR_SCAN_STACK 0u
-#define MEIFGUR_SCAN_SHORT_STACK 0u
-#define MEIFGUR_REPORT_STACK 0u
-#define MEIFGUR_WRITE_STACK 0u
-#define MEIFGUR_REPLAY_STACK 0u
+#define MEIFGUR_LOAD_STACK 10240u
+#define MEIFGUR_SCAN_STACK 17408u
+#define MEIFGUR_SCAN_SHORT_STACK 17408u
+#define MEIFGUR_REPORT_STACK 1024u
+#define MEIFGUR_WRITE_STACK 1024u
+#define MEIFGUR_REPLAY_STACK 17408u
 
 /* What a call returns: 0, one of these three, or the number of a refusal (below). */
 #define MEIFGUR_OK 0u
