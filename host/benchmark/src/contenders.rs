@@ -38,7 +38,6 @@ pub const CONTENDERS: &[Contender] = &[
         round: round::<meifgur::Bank>,
         outcome: outcome::<meifgur::Bank>,
     },
-    #[cfg(feature = "replay")]
     Contender {
         name: "replay",
         about: "proved",
@@ -119,7 +118,6 @@ fn reports(load: &Load, bank: &impl Live) -> Vec<u8> {
 }
 
 /// The archive's replay of a list in one call.
-#[cfg(feature = "replay")]
 mod replay {
     use super::*;
 

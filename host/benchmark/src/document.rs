@@ -21,12 +21,13 @@ pub fn page(results: &Results) -> String {
 }
 
 const ABOUT: &str = "\
-Nanoseconds per scan of a loaded bank, with a buffer for events that always suffices. Scan: a call of `meifgur_scan` of the
-proved archive for each record. Replay, where there is one: a call of `meifgur_replay` for all. The rivals are banks of
-`second_opinion/`, called once a record. Plain: written to be read. Quick: made for speed, alarm by alarm; it passes over an
-alarm that has nothing to do. Packed: made for speed, the conditions of many alarms at once, a bit each.
+Nanoseconds per scan of a loaded bank, with a buffer for events that always suffices. Scan: a call of `meifgur_scan_words` of
+the proved archive for each record, with events at the buffer's front. Replay: a call of `meifgur_replay_words` for all records
+of a list, with the events of all behind one another. The rivals are banks of `second_opinion/`, called once a record, with
+events at the front. Plain: written to be read. Quick: made for speed, alarm by alarm; it passes over an alarm that has nothing
+to do. Packed: made for speed, the conditions of many alarms at once, a bit each.
 Before any timing all gave the same events on every list, and the same reports after it. A time is the least of ROUNDS rounds
-in which they take turns on the same records and buffer, allocated and touched beforehand.
+in which they take turns on the same records and buffer, allocated and touched beforehand. Loading a bank is not timed.
 Quiet: no commands, readings wander inside the limits. Busy: readings wander across the limits, inputs change now and then,
 someone acknowledges. Storm: readings jump across all limits in each scan, every eighth command word has some bits.
 `host/benchmark.sh --write` measures all again and writes this page and its chart; without `--write` it prints the tables.
@@ -35,8 +36,8 @@ someone acknowledges. Storm: readings jump across all limits in each scan, every
 const CHART: &str = "![Bars and lines of the times in the tables below](speed.svg)";
 
 const THEN: &str = "\
-Then: the archive before it worked on lent words (commit c7a4cbf), in a run of its own. Its replay went from the image to the
-reports; its by-value scan handed the whole bank over and took it back.
+Then: the archive before it worked on lent words (commit c7a4cbf), in a run of its own. Its replay, and the plain rival then,
+went from the image to the reports; its by-value scan handed the whole bank over and took it back.
 ";
 
 pub fn all_tables(results: &Results) -> String {

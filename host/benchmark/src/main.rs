@@ -61,7 +61,6 @@ fn main() -> ExitCode {
 }
 
 fn run(arguments: &Arguments) -> Result<(), Failure> {
-    #[cfg(feature = "replay")] // an archive without it is of no version yet
     assert!(meifgur::sizes_agree(), "an archive of another version");
     let loads: Vec<Load> = Spec::all().into_iter().map(Load::new).collect();
     for load in &loads {
