@@ -114,10 +114,7 @@ struct meifgur_bank {
     uint64_t marks[MEIFGUR_MARKS_WORDS];
 };
 
-/*
- * The answers. `number` is 0, or the number of the refusal with its place; what follows these two is 0 then, but for 42 of a
- * load (see meifgur_load_words).
- */
+/* The answers. `number` is 0, or the number of the refusal with its place; what follows these two is 0 then. */
 struct meifgur_loaded {
     uint64_t number;
     uint64_t place;
@@ -160,8 +157,7 @@ struct meifgur_replayed {
  * Makes the words a bank of a settings image's alarms, before their first scan, whatever the words held. A refused image
  * makes them a bank without alarms, and its refusal is returned.
  *
- * answer: number, place, digital, analog. Returns 0, 1 to 6, 40, or 42 for a wrong length; digital and analog are the words
- * 1 and 2 of `settings` then, or 0 where it is shorter.
+ * answer: number, place, digital, analog. Returns 0, 1 to 6, 40, or 42 for a wrong length.
  */
 uint32_t meifgur_load_words(const uint8_t *image, size_t image_length,
                             uint64_t *settings, size_t settings_words,

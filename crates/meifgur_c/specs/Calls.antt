@@ -32,13 +32,17 @@ abbrev pub replyNumber : Reply → ℕ
 replyNumber Accepted = 0
 replyNumber (RefusedBy r) = r .number
 
-abbrev pub replyWords : Reply → List ℕ → List ℕ
-replyWords Accepted rest = 0 ∷ 0 ∷ rest
-replyWords (RefusedBy r) rest = r .number ∷ r .place ∷ rest
+abbrev pub replyWords : Reply → List ℕ
+replyWords Accepted = 0 ∷ 0 ∷ []
+replyWords (RefusedBy r) = r .number ∷ r .place ∷ []
 
--- load: the numbers of digital and of analog alarms
+-- load: the numbers of digital and of analog alarms, 0 of a refused image
+abbrev pub loadFields : Reply → ℕ → ℕ → List ℕ
+loadFields Accepted digital analog = 0 ∷ 0 ∷ digital ∷ analog ∷ []
+loadFields (RefusedBy r) digital analog = r .number ∷ r .place ∷ 0 ∷ 0 ∷ []
+
 abbrev pub loadAnswer : Reply → List ℕ → List ℕ
-loadAnswer reply settings = replyWords reply (digitalIn settings ∷ analogIn settings ∷ [])
+loadAnswer reply settings = loadFields reply (digitalIn settings) (analogIn settings)
 
 -- scan: the number of events
 abbrev pub scanNumber : Answer → ℕ

@@ -4,7 +4,7 @@ ghost use mathlib.Core.List.{[], _∷_};
 ghost use Prim.Native.Nat.{_≤_};
 ghost use lib.ListN.{length};
 ghost use lib.Seq.{sets};
-ghost use Rattle.meifgur_c.specs.Calls.{replyNumber, replyWords, scanNumber, scanAnswer, writeNumber, writeAnswer, replayAnswer};
+ghost use Rattle.meifgur_c.specs.Calls.{replyNumber, replyWords, loadFields, scanNumber, scanAnswer, writeNumber, writeAnswer, replayAnswer};
 use bank::answer::Answer;
 use host_bytes::answer::put_five;
 use host_bytes::answer::put_four;
@@ -35,7 +35,7 @@ pub const REPLAY_ANSWER: usize = 5;
 pub fn put_reply(words: &mut [u64], reply: Reply) -> u32
     requires { ⌜ 2 ≤ length (now words) ⌝ }
     ensures { λ r. ⌜ r ≡ replyNumber reply ⌝ }
-    ensures { λ _. ⌜ now (words .exit) ≡ sets (now (words .entry)) 0 (replyWords reply []) ⌝ }
+    ensures { λ _. ⌜ now (words .exit) ≡ sets (now (words .entry)) 0 (replyWords reply) ⌝ }
 {
     match reply {
         Reply::Accepted => {
@@ -49,11 +49,11 @@ pub fn put_reply(words: &mut [u64], reply: Reply) -> u32
     }
 }
 
-// Number and place, then two more.
+// Number and place, and how many alarms there are of each kind.
 pub fn put_loaded(words: &mut [u64], reply: Reply, digital: u64, analog: u64) -> u32
     requires { ⌜ 4 ≤ length (now words) ⌝ }
     ensures { λ r. ⌜ r ≡ replyNumber reply ⌝ }
-    ensures { λ _. ⌜ now (words .exit) ≡ sets (now (words .entry)) 0 (replyWords reply (digital ∷ analog ∷ [])) ⌝ }
+    ensures { λ _. ⌜ now (words .exit) ≡ sets (now (words .entry)) 0 (loadFields reply digital analog) ⌝ }
 {
     match reply {
         Reply::Accepted => {
@@ -61,13 +61,7 @@ pub fn put_loaded(words: &mut [u64], reply: Reply, digital: u64, analog: u64) ->
             0
         }
         Reply::Refused(refusal) => {
-            put_four(
-                words,
-                refusal.number as u64,
-                refusal.place as u64,
-                digital,
-                analog,
-            );
+            put_four(words, refusal.number as u64, refusal.place as u64, 0, 0);
             refusal.number
         }
     }

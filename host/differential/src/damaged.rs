@@ -89,7 +89,6 @@ fn misfitting(case: &Case, misfit: Misfit) -> Vec<String> {
         Misfit::Layout { bits } => blocks[0][0] ^= bits,
         Misfit::Length { block, words } => blocks[block] = Lent::words(words),
     }
-    let counts = [1, 2].map(|at| blocks[0].get(at).copied().unwrap_or(0));
     let mut caller = Caller::new(archive);
     caller.scan(0, case.record(0), case.events, SCAN_ANSWER);
     caller.report(1, REPORT_SIZE, REPORT_ANSWER);
@@ -111,7 +110,7 @@ fn misfitting(case: &Case, misfit: Misfit) -> Vec<String> {
         mut faults,
     } = caller.answers();
     for reply in replies {
-        if reply != no_bank(&reply, misfit.block(), counts) {
+        if reply != no_bank(&reply, misfit.block()) {
             let Reply { call, code, .. } = reply;
             faults.push(format!("{call} with {misfit:?}: code {code}"));
         }
@@ -119,8 +118,8 @@ fn misfitting(case: &Case, misfit: Misfit) -> Vec<String> {
     faults
 }
 
-/// The reply to a call with such a block: refusal 42, and nothing else; a load says the counts that stand among the settings.
-fn no_bank(reply: &Reply, block: usize, counts: [u64; 2]) -> Reply {
+/// The reply to a call with such a block: refusal 42, and nothing else.
+fn no_bank(reply: &Reply, block: usize) -> Reply {
     let mut expected = Reply::untouched(reply.call, reply.lent.len(), reply.answer.len());
     expected.code = NO_BANK;
     expected.answer.fill(0);
@@ -130,8 +129,5 @@ fn no_bank(reply: &Reply, block: usize, counts: [u64; 2]) -> Reply {
     };
     expected.answer[at] = NO_BANK.into();
     expected.answer[at + 1] = block as u64;
-    if reply.call == Call::Load {
-        expected.answer[2..].copy_from_slice(&counts);
-    }
     expected
 }

@@ -3,11 +3,11 @@ use borrow.Author.Needs.{needs}
 use borrow.Author.Tests.{lt-ltb, le-ltb}
 use denote.Ref.{now}
 use mathlib.Core.Path.{_≡_, refl, ap, _∙_}
-use mathlib.Core.List.{List, [], _∷_}
+use mathlib.Core.List.{List}
 use Prim.Native.Nat.{ℕ}
 use lib.ListN.{length, getD}
 use lib.Seq.{sets}
-use Rattle.meifgur_c.specs.Calls.{replyNumber, replyWords}
+use Rattle.meifgur_c.specs.Calls.{replyNumber, loadFields}
 use Rattle.meifgur_c.proofs.load_call.meifgur_load_words.Statement.{statement}
 use Rattle.meifgur_c.proofs.load_call.meifgur_load_words.Tie as tie
 
@@ -23,7 +23,7 @@ returns-2 c =
     let n = c .before .before .before .before .word-at2 .ensures ∙ ap (λ (l : List ℕ). getD l 2 0) (e .1 .0) in
     rw (le-ltb (length (now (a .answer))) 4 (c .before .before .before .before .before .before .before .before .before .before .before .before .before .before .before .before .before .before .if1 .left)) (
       f .0 ∙ ap replyNumber (e .0),
-      (e .1 .0, (e .1 .1 .0, (e .1 .1 .1, f .1 ∙ (λ i. sets (now (a .answer)) 0 (replyWords (e .0 i) (d i ∷ n i ∷ [])))))),
+      (e .1 .0, (e .1 .1 .0, (e .1 .1 .1, f .1 ∙ (λ i. sets (now (a .answer)) 0 (loadFields (e .0 i) (d i) (n i)))))),
     )
 
 pub meifgur-load-words-spec : {M : Type 1} → statement M

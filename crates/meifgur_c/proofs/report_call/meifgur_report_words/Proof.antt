@@ -25,7 +25,7 @@ returns-3 c =
     let f = c .before .before .put-reply .ensures in
     rw (le-ltb (length (now (a .answer))) 2 (c .before .before .before .before .before .before .before .before .before .before .if1 .left), le-ltb (length (now (a .out))) 224 (c .before .before .before .before .before .before .before .before .before .if2 .left)) (
       f .0 ∙ ap (λ (q : AlarmReport). replyNumber (q .reply)) r,
-      (c .before .before .before .before .before .before .put-said .ensures ∙ ap (λ (q : AlarmReport). reportOut q (now (a .out))) r, f .1 ∙ ap (λ (q : AlarmReport). sets (now (a .answer)) 0 (replyWords (q .reply) [])) r),
+      (c .before .before .before .before .before .before .put-said .ensures ∙ ap (λ (q : AlarmReport). reportOut q (now (a .out))) r, f .1 ∙ ap (λ (q : AlarmReport). sets (now (a .answer)) 0 (replyWords (q .reply))) r),
     )
 
 pub meifgur-report-words-spec : {M : Type 1} → statement M
