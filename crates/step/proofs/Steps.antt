@@ -28,7 +28,7 @@ use Rattle.six.specs.declared.decide.Cells.{Cells}
 use Rattle.step.specs.Internal.State.{State, stateIn, stateWords}
 use Rattle.step.specs.Internal.Held.{DigitalHeld, digitalFlags, hideDigital, Six, HH, H, L, LL, ROCPos, ROCNeg, place, ofSix, High, Low, AnalogHeld, lookAnalog, analogFlags, realOf}
 use Rattle.step.specs.Internal.Analog.{analogEnabled, analogSample, sampleStays, samplePattern, ratePattern, analogStep}
-use Rattle.step.specs.Internal.Packed.{keepStarts, allBegin, enabledIn, readyIn, decided, flagsAfter, staysIn, rateIn, sampleIn, sampledIn}
+use Rattle.step.specs.Internal.Packed.{keepStarts, allBegin, enabledIn, readyIn, SameFrees, decided, flagsAfter, staysIn, rateIn, sampleIn, sampledIn}
 use Rattle.step.proofs.Assemble.{after, outcomes, cells-are, analog-flags, analog-events}
 use Rattle.step.proofs.Laws.{rate-back, rate-fits}
 use Rattle.step.proofs.Starts.{startValues, values-behind, starts-stored}
@@ -206,9 +206,10 @@ pub enabled-is : (a : Alarm) (s : State) (x : Reading) (word time : ℕ) {m : �
 unfolding modeBits
 enabled-is a s x word time p = ap not (word-low _ _ p)
 
-module _ (a : Alarm) (ws : List ℕ) (at : ℕ) (x : Reading) (word time : ℕ) {m met′ frees′ duration first high low : ℕ} {required : Bool}
+module _ (a : Alarm) (ws : List ℕ) (at : ℕ) (x : Reading) (word time : ℕ) {m flags met′ frees′ freed duration first high low : ℕ} {required : Bool}
     (p : m ≡ wordOf (modeBits (bit (stateIn ws at .flags) 0) (bit (stateIn ws at .flags) 1) word (stateIn ws at .previous)))
-    (q : met′ ≡ wordOf (spread (metBits a x (after a (stateIn ws at) x word time .sample .rate)))) (r : frees′ ≡ wordOf (spread (freesBits a x)))
+    (q : met′ ≡ wordOf (spread (metBits a x (after a (stateIn ws at) x word time .sample .rate))))
+    (r : SameFrees flags met′ frees′ freed) (n : flags ≡ stateIn ws at .flags) (v : freed ≡ wordOf (spread (freesBits a x)))
     (d : duration ≡ a .duration) (k : required ≡ bit (a .flags) 4) (f : first ≡ getD ws at 0) (h : high ≡ getD ws (at + 3) 0) (l : low ≡ getD ws (at + 4) 0) where
   abbrev kept : State
   kept = stateIn ws at
@@ -223,8 +224,12 @@ module _ (a : Alarm) (ws : List ℕ) (at : ℕ) (x : Reading) (word time : ℕ) 
       ≡ record { kept = wordOf (six (take 3) (outcomes a kept x word time)); events = wordOf (six (drop 3) (outcomes a kept x word time)) }
   unfolding decided stateIn
   six-are =
-      (λ i.
-      cellsOf (lowerOf (f i)) (on-is i) (q i) (r i) (readyIn (lowerOf (f i)) (h i) (l i) (d i) time) (wordOf (spread (ackBits word (upperOf (f i))))) (k i))
+      let ready : ℕ = readyIn (lowerOf first) high low duration time in
+      let acks : ℕ = wordOf (spread (ackBits word (upperOf first))) in
+      ap (λ (w : ℕ). cellsOf w (enabledIn m) met′ frees′ ready acks required) (ap lowerOf f ∙ sym n)
+      ∙ r .alike (enabledIn m) ready acks required
+      ∙ (λ i.
+      cellsOf (n i) (on-is i) (q i) (v i) (readyIn (lowerOf (f i)) (h i) (l i) (d i) time) (wordOf (spread (ackBits word (upperOf (f i))))) (k i))
       ∙ cells-are a kept x word time
 
   pub events-are : m / 8 + 64 * decided first high low m met′ frees′ duration required word time .events ≡ analogStep a kept x word time .events
