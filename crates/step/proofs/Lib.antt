@@ -1,3 +1,4 @@
+mod Asked
 mod Assemble
 pub mod Back
 pub mod Laws

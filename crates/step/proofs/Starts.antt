@@ -3,6 +3,7 @@ use mathlib.Core.Path.{_≡_, refl, sym, ap, _∙_}
 use mathlib.Core.Bool.{Bool, true, false, not, _&&_, Bool·beq, cond}
 use mathlib.Core.List.{List, [], _∷_}
 use Prim.Native.Nat.{ℕ, zero, suc, _+_, _*_, _/_, _^_, _<_}
+use native.Mathlib.Nat.{zero-div}
 use native.Mathlib.Omega.{arith}
 use lib.Bits.{bitAnd, bitXor}
 use lib.ListN.{getD, set, replicate}
@@ -80,13 +81,16 @@ thirds-bits : {w : ℕ} {f : ℕ → Bool} → Thirds w f
     → w ≡ wordOf (f 0 ∷ false ∷ false ∷ f 1 ∷ false ∷ false ∷ f 2 ∷ false ∷ false ∷ f 3 ∷ false ∷ false ∷ f 4 ∷ false ∷ false ∷ f 5 ∷ false ∷ false ∷ [])
 thirds-bits {w = w} p = let z : w + 2 * 0 + 4 * 0 ≡ w = omega arith in sym z ∙ join p (every false) (every false)
 
+-- the bits that another word lacks
+pub lacking : {w : ℕ} {f : ℕ → Bool} → Thirds w f → (v : ℕ) → Thirds (bitXor w (bitAnd w v)) (λ k. f k && not (bit v (3 * k)))
+lacking {f = f} p v = same (differ p (with-word p v)) (λ k. begins (f k) (bit v (3 * k)))
+
 pub rows-begin : (flags met on : ℕ) (enabled : Bool) → on ≡ cond enabled 37449 0
     → Thirds (bitXor (bitAnd met on) (bitAnd (bitAnd met on) (flags / 256))) (rowBegins flags enabled met)
 rows-begin flags met on enabled e =
     rw e
-    (let row : Thirds (bitAnd met (cond enabled 37449 0)) (λ k. enabled && bit met (3 * k)) = of-word (every enabled) met in
-    same (differ row (with-word row (flags / 256)))
-    (λ k. begins (enabled && bit met (3 * k)) (bit (flags / 256) (3 * k)) ∙ ap (λ (b : Bool). (enabled && bit met (3 * k)) && not b) (bit-shift flags 8 (3 * k))))
+    (same (lacking (of-word (every enabled) met) (flags / 256))
+    (λ k. ap (λ (b : Bool). (enabled && bit met (3 * k)) && not b) (bit-shift flags 8 (3 * k))))
 
 module _ {w : ℕ} {f : ℕ → Bool} (p : Thirds w f) where
   abbrev bits : List Bool
@@ -102,3 +106,10 @@ module _ {w : ℕ} {f : ℕ → Bool} (p : Thirds w f) where
         ap (λ (v : ℕ). bit v 12) e ∙ bit-word bits 12,
         ap (λ (v : ℕ). bit v 15) e ∙ bit-word bits 15,
       )
+
+  -- a word that is 0 has none
+  pub all-unset : w ≡ 0 → (f 0 ≡ false) × (f 1 ≡ false) × (f 2 ≡ false) × (f 3 ≡ false) × (f 4 ≡ false) × (f 5 ≡ false)
+  all-unset z =
+      let b = six-bits in
+      let off : (k : ℕ) → bit w k ≡ false = λ k. rw (z, zero-div) in
+      (sym (b .0) ∙ off 0, sym (b .1) ∙ off 3, sym (b .2) ∙ off 6, sym (b .3) ∙ off 9, sym (b .4) ∙ off 12, sym (b .5) ∙ off 15)

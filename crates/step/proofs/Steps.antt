@@ -1,18 +1,20 @@
 -- A step on words, put together. Assumes nothing.
 use mathlib.Core.Path.{_≡_, refl, sym, ap, ap₂, _∙_}
-use mathlib.Core.Bool.{Bool, false, not, _&&_, _||_, and-false}
+use mathlib.Core.Bool.{Bool, true, false, not, _&&_, _||_, cond, and-false}
 use mathlib.Core.List.{List, [], _∷_, _++_}
 use Prim.Native.Nat.{ℕ, suc, _+_, _*_, _/_, _%_, _-_}
 use native.Mathlib.Nat.{zero-div}
 use native.Mathlib.Omega.{arith}
 use lib.Dec.{leb}
 use lib.ListN.{getD, set, take, drop}
-use lib.Seq.{sets, set-comm}
+use lib.Seq.{sets, set-comm, set-getD}
 use lib.Ieee.{Float, binary32}
 use Rattle.wire.specs.Bits.{bit}
+use Rattle.wire.specs.Real.{zeroReal}
 use Rattle.wire.specs.Internal.Words.{wordOf, spread}
-use Rattle.wire.proofs.WordLaws.{word-low}
+use Rattle.wire.proofs.WordLaws.{bit-digit, word-low}
 use Rattle.wire.proofs.MaskLaws.{bit-spread}
+use Rattle.settings.specs.Condition.{In}
 use Rattle.settings.specs.Alarm.{limitsOf, periodOf}
 use Rattle.settings.specs.declared.types.Alarm.{Alarm}
 use Rattle.settings.specs.declared.types.Reading.{Reading}
@@ -26,9 +28,10 @@ use Rattle.condition.specs.Internal.Outcome.{ackBits}
 use Rattle.six.specs.Internal.Cells.{six, cellsOf}
 use Rattle.six.specs.declared.decide.Cells.{Cells}
 use Rattle.step.specs.Internal.State.{State, stateIn, stateWords}
-use Rattle.step.specs.Internal.Held.{DigitalHeld, digitalFlags, hideDigital, Six, HH, H, L, LL, ROCPos, ROCNeg, place, ofSix, High, Low, AnalogHeld, lookAnalog, analogFlags, realOf}
+use Rattle.step.specs.Internal.Held.{DigitalHeld, lookDigital, digitalFlags, hideDigital, Six, HH, H, L, LL, ROCPos, ROCNeg, place, ofSix, High, Low, AnalogHeld, lookAnalog, analogFlags, realOf}
+use Rattle.step.specs.Internal.Digital.{digitalAfter, digitalEvents, digitalStep}
 use Rattle.step.specs.Internal.Analog.{analogEnabled, analogSample, sampleStays, samplePattern, ratePattern, analogStep}
-use Rattle.step.specs.Internal.Packed.{keepStarts, allBegin, enabledIn, readyIn, decided, flagsAfter, staysIn, rateIn, sampleIn, sampledIn}
+use Rattle.step.specs.Internal.Packed.{keepStarts, allBegin, enabledIn, readyIn, SameFrees, decided, flagsAfter, staysIn, rateIn, sampleIn, sampledIn}
 use Rattle.step.proofs.Assemble.{after, outcomes, cells-are, analog-flags, analog-events}
 use Rattle.step.proofs.Laws.{rate-back, rate-fits}
 use Rattle.step.proofs.Starts.{startValues, values-behind, starts-stored}
@@ -80,6 +83,40 @@ digital-done ws at d {l} {first} {start} e b f =
     ∙ digital-stored ws at first start
     ∙ (λ i. sets ws at (f i ∷ (copied ws (suc at) 4 ++ (b i ∷ (copied ws (suc (suc (suc (suc (suc (suc at)))))) 5 ++ [])))))
     ∙ ap (sets ws at) (sym (digital-words ws at d))
+
+-- no command, and nothing but in alarm and in a row where the condition is met, acknowledged or not: start and flags stay, and there are no
+-- events
+digital-rests : (a : Alarm) (s : State) (x : Reading) (word time : ℕ) (m u : Bool) → met a In x zeroReal ≡ m → word ≡ 0
+    → s .flags ≡ cond m 320 0 + 128 * cond u 1 0
+    → (s .hh ≡ digitalAfter a x word time (lookDigital s) .cell .start) × (s .flags ≡ wordOf (digitalFlags (digitalAfter a x word time (lookDigital s))))
+    × (0 ≡ wordOf (digitalEvents a x word time (lookDigital s)))
+unfolding wordOf
+digital-rests a s x word time true true e w f = rw (e, w, f) (refl, simp and-false, simp and-false)
+digital-rests a s x word time true false e w f = rw (e, w, f) (refl, simp and-false, simp and-false)
+digital-rests a s x word time false true e w f = rw (e, w, f) (refl, simp and-false, refl)
+digital-rests a s x word time false false e w f = rw (e, w, f) (refl, simp and-false, refl)
+
+-- such a word has nothing in its upper half
+rest-halves : (m : Bool) {w : ℕ} → w ≡ cond m 320 0 + 128 * (w / 128 % 2) → (lowerOf w ≡ w) × (upperOf w ≡ 0)
+rest-halves true e = (omega arith, omega arith)
+rest-halves false e = (omega arith, omega arith)
+
+-- its words stay
+pub digital-rest-done : (a : Alarm) (ws : List ℕ) (at : ℕ) (x : Reading) (word time : ℕ) {m : Bool} → m ≡ met a In x zeroReal → word ≡ 0
+    → getD ws at 0 ≡ cond m 320 0 + 128 * (getD ws at 0 / 128 % 2)
+    → (0 ≡ digitalStep a (stateIn ws at) x word time .events) × (ws ≡ sets ws at (stateWords (digitalStep a (stateIn ws at) x word time .state)))
+unfolding digitalStep stateIn
+digital-rest-done a ws at x word time {m} e w f =
+    let s : State = stateIn ws at in
+    let first : ℕ = getD ws at 0 in
+    let halves = rest-halves m f in
+    let rests = digital-rests a s x word time m (bit first 7) (sym e) w (halves .0 ∙ f ∙ ap (λ (n : ℕ). cond m 320 0 + 128 * n) (sym (bit-digit first 7))) in
+    let kept : first ≡ pairOf (wordOf (digitalFlags (digitalAfter a x word time (lookDigital s)))) word =
+    sym (pair-back first) ∙ (λ i. pairOf (rests .1 i) ((halves .1 ∙ sym w) i))
+    in (
+      rests .2,
+      sym (set-getD ws at 0) ∙ digital-done ws at (digitalAfter a x word time (lookDigital s)) (sym (set-getD ws (at + 5) 0)) (rests .0) kept,
+    )
 
 -- the starts of the sides and of the conditions
 abbrev startsIn : AnalogHeld → List ℕ
@@ -206,9 +243,10 @@ pub enabled-is : (a : Alarm) (s : State) (x : Reading) (word time : ℕ) {m : �
 unfolding modeBits
 enabled-is a s x word time p = ap not (word-low _ _ p)
 
-module _ (a : Alarm) (ws : List ℕ) (at : ℕ) (x : Reading) (word time : ℕ) {m met′ frees′ duration first high low : ℕ} {required : Bool}
+module _ (a : Alarm) (ws : List ℕ) (at : ℕ) (x : Reading) (word time : ℕ) {m flags met′ frees′ freed duration first high low : ℕ} {required : Bool}
     (p : m ≡ wordOf (modeBits (bit (stateIn ws at .flags) 0) (bit (stateIn ws at .flags) 1) word (stateIn ws at .previous)))
-    (q : met′ ≡ wordOf (spread (metBits a x (after a (stateIn ws at) x word time .sample .rate)))) (r : frees′ ≡ wordOf (spread (freesBits a x)))
+    (q : met′ ≡ wordOf (spread (metBits a x (after a (stateIn ws at) x word time .sample .rate))))
+    (r : SameFrees flags met′ frees′ freed) (n : flags ≡ stateIn ws at .flags) (v : freed ≡ wordOf (spread (freesBits a x)))
     (d : duration ≡ a .duration) (k : required ≡ bit (a .flags) 4) (f : first ≡ getD ws at 0) (h : high ≡ getD ws (at + 3) 0) (l : low ≡ getD ws (at + 4) 0) where
   abbrev kept : State
   kept = stateIn ws at
@@ -223,8 +261,12 @@ module _ (a : Alarm) (ws : List ℕ) (at : ℕ) (x : Reading) (word time : ℕ) 
       ≡ record { kept = wordOf (six (take 3) (outcomes a kept x word time)); events = wordOf (six (drop 3) (outcomes a kept x word time)) }
   unfolding decided stateIn
   six-are =
-      (λ i.
-      cellsOf (lowerOf (f i)) (on-is i) (q i) (r i) (readyIn (lowerOf (f i)) (h i) (l i) (d i) time) (wordOf (spread (ackBits word (upperOf (f i))))) (k i))
+      let ready : ℕ = readyIn (lowerOf first) high low duration time in
+      let acks : ℕ = wordOf (spread (ackBits word (upperOf first))) in
+      ap (λ (w : ℕ). cellsOf w (enabledIn m) met′ frees′ ready acks required) (ap lowerOf f ∙ sym n)
+      ∙ r .alike (enabledIn m) ready acks required
+      ∙ (λ i.
+      cellsOf (n i) (on-is i) (q i) (v i) (readyIn (lowerOf (f i)) (h i) (l i) (d i) time) (wordOf (spread (ackBits word (upperOf (f i))))) (k i))
       ∙ cells-are a kept x word time
 
   pub events-are : m / 8 + 64 * decided first high low m met′ frees′ duration required word time .events ≡ analogStep a kept x word time .events

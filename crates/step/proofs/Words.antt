@@ -9,10 +9,14 @@ use lib.ListN.{getD, set}
 use lib.Seq.{sets, set-getD, getD-set-other}
 use lib.Ieee.{Float, binary32, ofBits, toBits, isNan}
 use lib.Ieee.Bits.{toBits-ofBits}
+use Rattle.wire.specs.Bits.{bit}
 use Rattle.wire.specs.Real.{zeroReal}
+use Rattle.wire.proofs.Laws.{and-true}
 use Rattle.layout.specs.Internal.Words.{lowerOf, upperOf, pairOf}
 use Rattle.layout.proofs.Laws.{getD-above, getD-below}
+use Rattle.level.specs.Rate.{newRate}
 use Rattle.step.specs.Internal.Held.{realOf}
+use Rattle.step.specs.Internal.Packed.{staysIn, rateIn, sampleIn, sampledIn}
 use Rattle.step.proofs.Starts.{set-first}
 
 -- a word is the pair of its halves
@@ -101,3 +105,26 @@ pub value-is : (stays : Bool) (p : ℕ) (x : Float)
     → cond stays p (toBits binary32 x) ≡ cond stays p (toBits binary32 (cond stays (realOf p) x))
 value-is true p x = refl
 value-is false p x = refl
+
+module _ (ws : List ℕ) (at flags period time : ℕ) (enabled : Bool) (x : Float) {stays : Bool} (e : stays ≡ staysIn flags period (getD ws (at + 1) 0) time) where
+  abbrev rate : ℕ
+  rate = rateIn flags enabled period (getD ws at 0) (getD ws (at + 1) 0) x time
+
+  -- a sample that stays in an enabled scan is stored as it is
+  pub sample-stays : enabled && stays ≡ true
+      → (upperOf (getD ws at 0) ≡ rate)
+      × (ws ≡ sets ws at (sampleIn flags enabled period (getD ws at 0) (getD ws (at + 1) 0) x time ∷ sampledIn flags period (getD ws (at + 1) 0) time ∷ []))
+  unfolding rateIn copied
+  sample-stays h =
+      let n : suc at ≡ at + 1 = omega arith in
+      let on = and-true enabled stays h in
+      let kept : upperOf (getD ws at 0) ≡ rate = rw (← e, on .0, on .1) in (
+        kept,
+        sym (stay 2 ws ws at [] (λ k g. refl)) ∙ rw (← e, on .0, on .1, n, pair-back (getD ws at 0)),
+      )
+
+  -- otherwise the rate is a new one
+  pub rate-changes : enabled && stays ≡ false
+      → cond (enabled && bit flags 3) (toBits binary32 (newRate period (realOf (lowerOf (getD ws at 0))) x)) 0 ≡ rate
+  unfolding rateIn
+  rate-changes h = rw (← e, h)

@@ -4,10 +4,15 @@ ghost use Prim.Native.Nat.{_+_, _≤_};
 ghost use lib.ListN.{length};
 ghost use lib.Seq.{sets};
 ghost use Rattle.settings.specs.declared.types.Form.{Form};
+ghost use Rattle.wire.specs.Internal.Words.{wordOf, spread};
 ghost use Rattle.layout.specs.Internal.Words.{alarmIn};
+ghost use Rattle.level.specs.Internal.Bits.{analogOf, freesBits};
 ghost use Rattle.step.specs.Internal.State.{stateIn, stateWords};
+ghost use Rattle.step.specs.Internal.Packed.{SameFrees};
 ghost use Rattle.step.specs.Internal.Analog.{analogStep};
 use crate::finish::finish;
+use crate::masks::SIX;
+use crate::masks::only_in;
 use crate::sample::resample;
 use condition::mode::modes;
 use layout::half::lower;
@@ -19,8 +24,19 @@ use layout::read::period_in;
 use level::level::frees_word;
 use level::level::met_word;
 use level::rate::value_of;
+use settings::types::Limits;
 use settings::types::Reading;
 use wire::real::from_pattern;
+
+// The conditions that the reading frees, or none where no condition is in alarm and not met: only such a one asks.
+fn frees_in(flags: u32, met: u32, limits: Limits, reading: Reading) -> u32
+    ensures { λ r. ⌜ SameFrees flags met r (wordOf (spread (freesBits (analogOf 0 0 limits 0) reading))) ⌝ }
+{
+    if only_in((flags / 64) & SIX, met) == 0 {
+        return 0;
+    }
+    frees_word(limits, reading)
+}
 
 // Steps the alarm whose settings begin at `from` and whose words begin at `at`, with its reading, and answers its events.
 pub fn analog_step(
@@ -62,7 +78,7 @@ pub fn analog_step(
         at,
         m,
         met,
-        frees_word(limits, reading),
+        frees_in(flags, met, limits, reading),
         duration_in(settings, from),
         set / 16 % 2 == 1,
         word,

@@ -6,6 +6,8 @@ ghost use Prim.Native.Nat.{_+_, _*_, _≤_, _<_};
 ghost use lib.ListN.{length};
 ghost use Rattle.wire.specs.Bits.{bit};
 ghost use Rattle.step.specs.Internal.Packed.{keepStart, keepStarts, rowBegins, allBegin};
+use crate::masks::SIX;
+use crate::masks::only_in;
 
 pub fn begin(states: &mut [u64], at: usize, begins: bool, time: u64)
     requires { ⌜ at < length (now states) ⌝ }
@@ -29,19 +31,18 @@ fn begin_rows(states: &mut [u64], at: usize, begins: u32, time: u64)
     begin(states, at + 5, begins / 32768 % 2 == 1, time);
 }
 
-// A bit for each of the six, or none: 37449 is 111111 to base 8.
+// A bit for each of the six, or none.
 fn every(b: bool) -> u32
     ensures { λ r. ⌜ r ≡ cond b 37449 0 ⌝ }
 {
-    if b { 37449 } else { 0 }
+    if b { SIX } else { 0 }
 }
 
 // The rows that begin, one at every third bit.
 fn rows_begin(flags: u32, enabled: bool, met: u32) -> u32
     ensures { λ r. ⌜ (bit r 0 ≡ rowBegins flags enabled met 0) × (bit r 3 ≡ rowBegins flags enabled met 1) × (bit r 6 ≡ rowBegins flags enabled met 2) × (bit r 9 ≡ rowBegins flags enabled met 3) × (bit r 12 ≡ rowBegins flags enabled met 4) × (bit r 15 ≡ rowBegins flags enabled met 5) ⌝ }
 {
-    let row = met & every(enabled);
-    row ^ (row & (flags / 256))
+    only_in(met & every(enabled), flags / 256)
 }
 
 // The starts from `at` on: of both sides and of the six conditions. Most scans begin none.

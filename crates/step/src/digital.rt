@@ -1,6 +1,8 @@
 // One scan of a digital alarm.
 ghost use mathlib.Core.Path.{_≡_};
-ghost use Prim.Native.Nat.{_+_, _≤_};
+ghost use mathlib.Core.Bool.{cond};
+ghost use Prim.Native.Nat.{_+_, _*_, _/_, _%_, _≤_};
+ghost use lib.Dec.{eqb};
 ghost use lib.ListN.{length, set};
 ghost use lib.Seq.{sets};
 ghost use Rattle.settings.specs.declared.types.Form.{Form};
@@ -33,6 +35,25 @@ fn keep(states: &mut [u64], at: usize, first: u64, begins: bool, time: u64)
     states[at] = first;
 }
 
+// Of the first word, bits 6 and 8: in alarm, and its row goes on. Bits 0 to 2 are disabled, suppressed and faulted, the upper half is the last
+// command word.
+const IN_ALARM: u64 = 320;
+
+// Bit 7: unacknowledged.
+const UNACKED: u64 = 128;
+
+// Whether the first word says no more than these, in alarm just where the condition is met: a scan with no command leaves it as it is.
+fn rests(first: u64, met: bool) -> bool
+    ensures { λ r. ⌜ r ≡ eqb first (cond met 320 0 + 128 * (first / 128 % 2)) ⌝ }
+{
+    let unacked = UNACKED * (first / UNACKED % 2);
+    if met {
+        first == IN_ALARM + unacked
+    } else {
+        first == unacked
+    }
+}
+
 // Steps the alarm whose settings begin at `from` and whose words begin at `at`, and answers its events.
 pub fn digital_step(
     settings: &[u64],
@@ -48,13 +69,16 @@ pub fn digital_step(
     ensures { λ _. ⌜ now (states .exit) ≡ sets (now (states .entry)) at (stateWords (digitalStep (alarmIn Form.Digital (now (settings .entry)) from) (stateIn (now (states .entry)) at) reading word time .state)) ⌝ }
 {
     let first = states[at];
+    let set = flags_in(settings, from);
+    let met = is_bit(set % 2 == 1, reading);
+    if (word == 0) & rests(first, met) {
+        return 0;
+    }
     let begun = states[at + STARTS];
     let flags = lower(first);
     let previous = upper(first);
-    let set = flags_in(settings, from);
     let m = modes(flags, word, previous);
     let enabled = !(m % 2 == 1);
-    let met = is_bit(set % 2 == 1, reading);
     let frees = !(set / 4 % 2 == 1) | resets_one(word, previous);
     let on = flags / 256 % 2 == 1;
     let ready = lasted(choose(on, begun, time), duration_in(settings, from), time);

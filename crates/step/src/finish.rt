@@ -1,12 +1,14 @@
 // The conditions of an analog alarm, of every number form: met and freed come as words of bits, one at every third place.
 ghost use mathlib.Core.Path.{_≡_};
-ghost use mathlib.Core.List.{[], _∷_};
 ghost use Prim.Native.Nat.{_+_, _*_, _/_, _≤_, _<_};
 ghost use lib.ListN.{length, getD, set};
-ghost use Rattle.wire.specs.Internal.Words.{wordOf, spread};
 ghost use Rattle.layout.specs.Internal.Words.{lowerOf, pairOf};
-ghost use Rattle.step.specs.Internal.Packed.{readyIn, enabledIn, decided, flagsAfter, keepStarts, allBegin};
+ghost use Rattle.step.specs.Internal.Packed.{readyIn, SameReady, enabledIn, decided, flagsAfter, keepStarts, allBegin};
 use crate::begin::begin_all;
+use crate::masks::SIX;
+use crate::masks::only_in;
+use crate::offsets::HIGH;
+use crate::offsets::LOW;
 use condition::command::ack_word;
 use condition::row::choose;
 use condition::row::lasted;
@@ -29,25 +31,15 @@ fn ready_in(flags: u32, high: u64, low: u64, duration: u32, time: u64) -> u32
     spread6(h, h, l, l, true, true)
 }
 
-// Decides the six conditions, from the word of flags and command word, the starts of both sides and the modes after the scan.
-fn decide_six(
-    first: u64,
-    high: u64,
-    low: u64,
-    modes: u32,
-    met: u32,
-    frees: u32,
-    duration: u32,
-    required: bool,
-    word: u32,
-    time: u64,
-) -> Cells
-    ensures { λ r. ⌜ (r ≡ decided first high low modes met frees duration required word time) × (r .kept < 262144) × (r .events < 262144) ⌝ }
+// The same, or none where no condition is met and not in alarm: only such a one asks whether it is due.
+fn due_in(states: &[u64], at: usize, flags: u32, met: u32, duration: u32, time: u64) -> u32
+    requires { ⌜ at + 11 ≤ length (now states) ⌝ }
+    ensures { λ r. ⌜ SameReady flags met r (readyIn flags (getD (now (states .entry)) (at + 3) 0) (getD (now (states .entry)) (at + 4) 0) duration time) ⌝ }
 {
-    let flags = lower(first);
-    let acks = ack_word(word, upper(first));
-    let ready = ready_in(flags, high, low, duration, time);
-    decide(flags, !(modes % 2 == 1), met, frees, ready, acks, required)
+    if only_in(met & SIX, flags / 64) == 0 {
+        return 0;
+    }
+    ready_in(flags, states[at + HIGH], states[at + LOW], duration, time)
 }
 
 // The flags after a scan.
@@ -78,21 +70,12 @@ pub fn finish(
     ensures { λ _. ⌜ now (states .exit) ≡ set (keepStarts (allBegin (lowerOf (getD (now (states .entry)) at 0)) (enabledIn modes) met) time (at + 3) (now (states .entry))) at (pairOf (flagsAfter modes met (decided (getD (now (states .entry)) at 0) (getD (now (states .entry)) (at + 3) 0) (getD (now (states .entry)) (at + 4) 0) modes met frees duration required word time)) word) ⌝ }
 {
     let first = states[at];
-    let high = states[at + 3];
-    let low = states[at + 4];
-    let six = decide_six(
-        first,
-        high,
-        low,
-        modes,
-        met,
-        frees,
-        duration,
-        required,
-        word,
-        time,
-    );
-    begin_all(states, at + 3, lower(first), !(modes % 2 == 1), met, time);
+    let flags = lower(first);
+    let enabled = !(modes % 2 == 1);
+    let ready = due_in(states, at, flags, met, duration, time);
+    let acks = ack_word(word, upper(first));
+    let six = decide(flags, enabled, met, frees, ready, acks, required);
+    begin_all(states, at + HIGH, flags, enabled, met, time);
     states[at] = pair(flags_after(modes, met, six), word);
     modes / 8 + 64 * six.events
 }

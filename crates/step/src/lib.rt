@@ -3,5 +3,6 @@ pub mod analog;
 pub mod begin;
 pub mod digital;
 pub mod finish;
+pub mod masks;
 pub mod offsets;
 pub mod sample;

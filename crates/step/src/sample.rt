@@ -1,11 +1,14 @@
 // The rate sample: its value and its rate by their patterns, and its time.
 ghost use mathlib.Core.Path.{_≡_};
-ghost use mathlib.Core.Bool.{cond};
+ghost use mathlib.Core.Bool.{cond, _&&_};
 ghost use mathlib.Core.List.{[], _∷_};
 ghost use Prim.Native.Nat.{_+_, _≤_};
 ghost use lib.ListN.{length, getD};
 ghost use lib.Seq.{sets};
-ghost use lib.Ieee.{binary32, toBits};
+ghost use lib.Ieee.{binary32, ofBits, toBits};
+ghost use Rattle.wire.specs.Bits.{bit};
+ghost use Rattle.layout.specs.Internal.Words.{lowerOf};
+ghost use Rattle.level.specs.Rate.{newRate};
 ghost use Rattle.step.specs.Internal.Packed.{staysIn, rateIn, sampleIn, sampledIn};
 use condition::row::choose;
 use condition::row::elapsed;
@@ -22,21 +25,10 @@ fn stays_in(flags: u32, period: u32, sampled: u64, time: u64) -> bool
     (flags / 8 % 2 == 1) & !(period as u64 <= elapsed(sampled, time))
 }
 
-// The rate's pattern after a scan. Most scans keep it.
-fn rate_in(
-    flags: u32,
-    enabled: bool,
-    period: u32,
-    stored: u64,
-    sampled: u64,
-    x: f32,
-    time: u64,
-) -> u32
-    ensures { λ r. ⌜ r ≡ rateIn flags enabled period stored sampled x time ⌝ }
+// The pattern of a rate that does not stay: from the stored value to a new one, or 0 where there is none.
+fn new_rate(flags: u32, enabled: bool, period: u32, stored: u64, x: f32) -> u32
+    ensures { λ r. ⌜ r ≡ cond (enabled && bit flags 3) (toBits binary32 (newRate period (ofBits binary32 (lowerOf stored)) x)) 0 ⌝ }
 {
-    if enabled & stays_in(flags, period, sampled, time) {
-        return upper(stored);
-    }
     if enabled & (flags / 8 % 2 == 1) {
         return rate_pattern(period, lower(stored), x);
     }
@@ -50,7 +42,7 @@ fn value_in(stays: bool, pattern: u32, x: f32) -> u32
     if stays { pattern } else { to_pattern(x) }
 }
 
-// Stores the sample after a scan in the two words from `at` on, and answers the pattern of the rate.
+// Stores the sample after a scan in the two words from `at` on, and answers the pattern of the rate. Most scans keep both.
 pub fn resample(
     states: &mut [u64],
     at: usize,
@@ -66,8 +58,11 @@ pub fn resample(
 {
     let stored = states[at];
     let sampled = states[at + 1];
-    let rate = rate_in(flags, enabled, period, stored, sampled, x, time);
     let stays = stays_in(flags, period, sampled, time);
+    if enabled & stays {
+        return upper(stored);
+    }
+    let rate = new_rate(flags, enabled, period, stored, x);
     let value = value_in(stays, lower(stored), x);
     states[at] = pair(value, rate);
     states[at + 1] = choose(stays, sampled, time);

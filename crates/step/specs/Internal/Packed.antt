@@ -1,5 +1,6 @@
 -- Parts of a step on words, for the functions that work them out.
 use Prim.Native.Nat.{ℕ, suc, _+_, _*_, _-_, _/_, _%_}
+use mathlib.Core.Path.{_≡_}
 use mathlib.Core.Bool.{Bool, true, not, _&&_, _||_, cond}
 use mathlib.Core.List.{List, [], _∷_}
 use lib.Dec.{leb, eqb}
@@ -78,6 +79,16 @@ enabledIn modes = not (eqb (modes % 2) 1)
 unfoldable pub decided : ℕ → ℕ → ℕ → ℕ → ℕ → ℕ → ℕ → Bool → ℕ → ℕ → Cells
 decided first high low modes met frees duration required word time =
     cellsOf (lowerOf first) (enabledIn modes) met frees (readyIn (lowerOf first) high low duration time) (wordOf (spread (ackBits word (upperOf first)))) required
+
+-- two words of conditions that would be due decide the six alike
+pub record SameReady (flags met ready other : ℕ) : Type 0 where
+  pub alike : (enabled : Bool) (frees acks : ℕ) (required : Bool)
+      → cellsOf flags enabled met frees ready acks required ≡ cellsOf flags enabled met frees other acks required
+
+-- and two of conditions that would be cleared
+pub record SameFrees (flags met frees other : ℕ) : Type 0 where
+  pub alike : (enabled : Bool) (ready acks : ℕ) (required : Bool)
+      → cellsOf flags enabled met frees ready acks required ≡ cellsOf flags enabled met other ready acks required
 
 -- the flags after a scan
 abbrev pub flagsAfter : ℕ → ℕ → Cells → ℕ

@@ -90,9 +90,10 @@ returns-2 c =
     let h = ap (λ (l : List ℕ). getD l (g .at + 3) 0) stored ∙ beside-sample ws (g .at) _ _ .1 in
     let l = ap (λ (l : List ℕ). getD l (g .at + 4) 0) stored ∙ beside-sample ws (g .at) _ _ .2 in
     let need = ap (λ (v : ℕ). bit v 4) set in
-    let frees = c .before .before .before .before .frees-word .ensures .0 ∙ (λ i. wordOf (spread (freesBits (analogOf 0 0 (limits i) 0) x))) ∙ ap (λ (bs : List Bool). wordOf (spread bs)) (frees-sees a x) in
-    let events = events-are a ws (g .at) x (g .word) (g .time) m met frees (c .before .before .before .duration-in .ensures) need f h l in
-    let flags = flags-are a ws (g .at) x (g .word) (g .time) m met frees (c .before .before .before .duration-in .ensures) need f h l in
+    let asked = c .before .before .before .before .frees-in .ensures in
+    let frees = (λ i. wordOf (spread (freesBits (analogOf 0 0 (limits i) 0) x))) ∙ ap (λ (bs : List Bool). wordOf (spread bs)) (frees-sees a x) in
+    let events = events-are a ws (g .at) x (g .word) (g .time) m met asked low frees (c .before .before .before .duration-in .ensures) need f h l in
+    let flags = flags-are a ws (g .at) x (g .word) (g .time) m met asked low frees (c .before .before .before .duration-in .ensures) need f h l in
     (c .before .before .finish .ensures .0 ∙ events, analog-done a ws (g .at) x (g .word) (g .time) e met (ap (λ (v : ℕ). pairOf v (g .word)) flags) stored f (c .before .before .finish .ensures .1))
 
 pub analog-step-spec : {M : Type 1} → statement M

@@ -5,7 +5,9 @@ use Rattle.step.proofs.begin.rows_begin.Statement.{statement}
 use Rattle.step.proofs.begin.rows_begin.Tie as tie
 
 returns : tie.Need-returns
-returns c = six-bits (rows-begin (c .before .args .flags) (c .before .args .met) (c .every .result) (c .before .args .enabled) (c .every .ensures))
+returns c =
+    let a = c .before .before .args in
+    rw (c .only-in .ensures) (six-bits (rows-begin (a .flags) (a .met) (c .before .every .result) (a .enabled) (c .before .every .ensures)))
 
 pub rows-begin-spec : {M : Type 1} → statement M
-rows-begin-spec = tie.close (tie.spec (λ c κs. search needs) returns)
+rows-begin-spec = tie.close (tie.spec (λ c κs. search needs) (λ c κs. search needs) returns)

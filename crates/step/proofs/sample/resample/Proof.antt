@@ -1,20 +1,31 @@
 -- `step::sample::resample` meets its contract. Assumes nothing.
 use borrow.Author.Needs.{needs}
-use mathlib.Core.Path.{_∙_, ap}
+use denote.Ref.{now}
+use mathlib.Core.Path.{_∙_}
 use native.Mathlib.Numerals.{add-one}
 use native.Mathlib.Omega.{arith}
 use lib.ListN.{length-set}
+use Rattle.step.proofs.Words.{sample-stays, rate-changes}
 use Rattle.step.proofs.sample.resample.Statement.{statement}
 use Rattle.step.proofs.sample.resample.Tie as tie
+
+returns : tie.Need-returns
+returns c =
+    let a = c .before .before .before .before .before .before .args in
+    let kept = sample-stays (now (a .states)) (a .at) (a .flags) (a .period) (a .time) (a .enabled) (a .x) (c .before .before .stays-in .ensures) (c .before .if1 .taken) in
+    (c .upper .ensures ∙ kept .0, kept .1)
 
 slice-write-states-2 : tie.Need-slice-write-states-2
 slice-write-states-2 c = simp length-set (omega arith)
 
-returns : tie.Need-returns
-returns c = (
-  c .before .before .before .before .before .rate-in .ensures,
-  rw (c .choose .ensures, c .before .pair .ensures .0, c .before .before .value-in .ensures, c .before .before .before .lower .ensures, c .before .before .before .before .stays-in .ensures, c .before .before .before .before .before .rate-in .ensures, add-one),
-)
+returns-2 : tie.Need-returns-2
+returns-2 c =
+    let a = c .before .before .before .before .before .before .before .before .before .before .args in
+    let stays = c .before .before .before .before .before .before .stays-in .ensures in
+    let rate = c .before .before .before .before .new-rate .ensures ∙ rate-changes (now (a .states)) (a .at) (a .flags) (a .period) (a .time) (a .enabled) (a .x) stays (c .before .before .before .before .before .if1 .left) in (
+      rate,
+      rw (c .choose .ensures, c .before .pair .ensures .0, c .before .before .value-in .ensures, c .before .before .before .lower .ensures, stays, rate, add-one),
+    )
 
 pub resample-spec : {M : Type 1} → statement M
 resample-spec =
@@ -27,6 +38,8 @@ resample-spec =
     (λ c. search needs)
     (λ c κs. search needs)
     (λ c κs. search needs)
+    returns
+    (λ c κs. search needs)
     (λ c κs. search needs)
     (λ c κs. search needs)
     (λ c κs. search needs)
@@ -37,4 +50,4 @@ resample-spec =
     (λ c. search needs)
     slice-write-states-2
     (λ c. search needs)
-    returns)
+    returns-2)
