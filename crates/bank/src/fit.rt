@@ -12,7 +12,7 @@ use settings::reply::Refusal;
 use settings::reply::Reply;
 
 // The refusal that names a block.
-fn no_bank(block: usize) -> Reply
+pub fn no_bank(block: usize) -> Reply
     ensures { λ r. ⌜ r ≡ Reply.Refused (noBank block) ⌝ }
 {
     Reply::Refused(Refusal {

@@ -1,31 +1,18 @@
 // A bank made of a settings image, in words that a caller lends.
 ghost use mathlib.Core.Path.{_≡_};
 ghost use lib.ListN.{length, replicate};
-ghost use Rattle.layout.specs.Internal.Block.{noBank};
-ghost use Rattle.settings.specs.declared.reply.Reply.{Reply};
 ghost use Rattle.layout.specs.Internal.Block.{settingsWords};
 ghost use Rattle.reader.specs.Read.{readOf};
 ghost use Rattle.bank.specs.Internal.Words.{wordsIn};
 ghost use Rattle.bank.specs.Internal.Load.{loadReply, loadWords};
+use crate::fit::no_bank;
 use layout::block::clear;
 use layout::block::put_settings;
 use layout::sizes::MARKS_WORDS;
 use layout::sizes::SETTINGS_WORDS;
 use layout::sizes::STATES_WORDS;
 use reader::read::read;
-use settings::refusals::NO_BANK;
-use settings::reply::Refusal;
 use settings::reply::Reply;
-
-// A block that isn't one of a bank.
-fn no_bank(block: usize) -> Reply
-    ensures { λ r. ⌜ r ≡ Reply.Refused (noBank block) ⌝ }
-{
-    Reply::Refused(Refusal {
-        number: NO_BANK,
-        place: block,
-    })
-}
 
 // Writes the three blocks, which have the right lengths.
 fn load_blocks(image: &[u8], settings: &mut [u64], states: &mut [u64], marks: &mut [u64]) -> Reply

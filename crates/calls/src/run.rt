@@ -18,6 +18,8 @@ use bank::load::load;
 use bank::scan::scan;
 use image::write::Written;
 use image::write::write;
+use layout::sizes::ANALOG_COUNT;
+use layout::sizes::DIGITAL_COUNT;
 use layout::sizes::MARKS_WORDS;
 use layout::sizes::SETTINGS_WORDS;
 use layout::sizes::STATES_WORDS;
@@ -25,11 +27,6 @@ use report::report::report;
 use settings::reply::Reply;
 use text::input::part;
 use text::pieces::PIECE_SIZE;
-
-// Where a bank's settings say how many digital alarms it has, and how many analog ones.
-const DIGITAL: usize = 1;
-
-const ANALOG: usize = 2;
 
 // Bytes of an event record.
 const EVENT_SIZE: usize = 16;
@@ -78,7 +75,7 @@ fn run_report(
     text: &mut [u8],
     waiting: usize,
 ) -> usize {
-    let is_digital = alarm <= settings[DIGITAL] as usize;
+    let is_digital = alarm <= settings[DIGITAL_COUNT] as usize;
     let found = report(settings, states, marks, alarm);
     let reply = found.reply;
     let whole = found.alarm;
@@ -102,7 +99,7 @@ fn run_settings(
     waiting: usize,
 ) -> usize {
     let reply = load(image, settings, states, marks);
-    let alarms = alarms_in(settings[DIGITAL], settings[ANALOG]);
+    let alarms = alarms_in(settings[DIGITAL_COUNT], settings[ANALOG_COUNT]);
     add_loaded(text, waiting, reply, alarms)
 }
 

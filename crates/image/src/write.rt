@@ -9,6 +9,8 @@ ghost use Rattle.layout.specs.Internal.Block.{settingsIn};
 use layout::block::is_block;
 use layout::read::alarm_in;
 use layout::sizes::ALARM_WORDS;
+use layout::sizes::ANALOG_COUNT;
+use layout::sizes::DIGITAL_COUNT;
 use layout::sizes::SETTINGS_HEAD;
 use settings::refusals::IMAGE_TOO_LONG;
 use settings::refusals::NO_BANK;
@@ -176,8 +178,8 @@ fn write_block(words: &[u64], out: &mut [u8]) -> Written
     ensures { λ r. ⌜ r ≡ writtenOf (settingsIn (now (words .entry))) (length (now (out .entry))) ⌝ }
     ensures { λ _. ⌜ now (out .exit) ≡ imageBuffer (settingsIn (now (words .entry))) (now (out .entry)) ⌝ }
 {
-    let digital = words[1] as usize;
-    let analog = words[2] as usize;
+    let digital = words[DIGITAL_COUNT] as usize;
+    let analog = words[ANALOG_COUNT] as usize;
     if !has_room(digital, analog, out.len()) {
         return Written::Refused(Refusal {
             number: IMAGE_TOO_LONG,

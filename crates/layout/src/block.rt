@@ -6,6 +6,8 @@ ghost use lib.Seq.{sets};
 ghost use Rattle.layout.specs.Internal.Block.{layoutWord, headWords, alarmsWords, settingsWords, Says, isBlock};
 use crate::put::put_alarm;
 use crate::sizes::ALARM_WORDS;
+use crate::sizes::ANALOG_COUNT;
+use crate::sizes::DIGITAL_COUNT;
 use crate::sizes::LAYOUT_WORD;
 use crate::sizes::SETTINGS_HEAD;
 use crate::sizes::SETTINGS_WORDS;
@@ -40,8 +42,8 @@ fn put_head(words: &mut [u64], digital: usize, analog: usize)
     ensures { λ _. ⌜ now (words .exit) ≡ sets (now (words .entry)) 0 (headWords digital analog) ⌝ }
 {
     words[0] = LAYOUT_WORD;
-    words[1] = digital as u64;
-    words[2] = analog as u64;
+    words[DIGITAL_COUNT] = digital as u64;
+    words[ANALOG_COUNT] = analog as u64;
     words[3] = 0;
 }
 

@@ -6,6 +6,11 @@ pub const PLACES: usize = 36;
 // In front of the alarms: the layout word, the number of digital alarms, of analog ones, and a 0.
 pub const SETTINGS_HEAD: usize = 4;
 
+// Where the two numbers stand there.
+pub const DIGITAL_COUNT: usize = 1;
+
+pub const ANALOG_COUNT: usize = 2;
+
 // The words of an alarm's settings.
 pub const ALARM_WORDS: usize = 8;
 

@@ -2,6 +2,8 @@
 use crate::show::add_answer;
 use crate::show::add_bank;
 use bank::scan::scan;
+use layout::sizes::ANALOG_COUNT;
+use layout::sizes::DIGITAL_COUNT;
 use layout::sizes::MARKS_WORDS;
 use layout::sizes::SETTINGS_WORDS;
 use layout::sizes::STATES_WORDS;
@@ -13,17 +15,15 @@ use text::pieces::goes_on;
 use text::pieces::next_piece;
 use text::pieces::no_piece;
 
-// Where a bank's settings say how many digital alarms it has, and how many analog ones.
-const DIGITAL: usize = 1;
-
-const ANALOG: usize = 2;
-
 // Bytes that suffice for the events of a scan.
 const EVENTS_ROOM: usize = 3840;
 
 // How many bytes a record for a bank has.
 fn size_for(settings: &[u64; SETTINGS_WORDS]) -> usize {
-    record_length(settings[DIGITAL] as usize, settings[ANALOG] as usize)
+    record_length(
+        settings[DIGITAL_COUNT] as usize,
+        settings[ANALOG_COUNT] as usize,
+    )
 }
 
 // Runs a record, and adds its events or its refusal to what waits.
@@ -52,7 +52,7 @@ fn finish(
     let Source::Ended = source else {
         return;
     };
-    let digital = settings[DIGITAL] as usize;
+    let digital = settings[DIGITAL_COUNT] as usize;
     let at = add_bank(text, waiting, settings, states, marks, digital);
     flush(text, at);
 }

@@ -7,6 +7,8 @@ ghost use Rattle.replay.specs.Replay.{noneYet, counted, replied, replayO
 use bank::answer::Answer;
 use bank::fit::fit;
 use bank::scan::scan;
+use layout::sizes::ANALOG_COUNT;
+use layout::sizes::DIGITAL_COUNT;
 use scan_record::check::record_length;
 use settings::reply::Refusal;
 use settings::reply::Reply;
@@ -125,7 +127,10 @@ fn run(
     ensures { λ _. ⌜ now (marks .exit) ≡ replayOf (wordsIn (now (settings .entry)) (now (states .entry)) (now (marks .entry))) (now (bytes .entry)) (now (out .entry)) .words .marks ⌝ }
     ensures { λ _. ⌜ now (out .exit) ≡ replayOf (wordsIn (now (settings .entry)) (now (states .entry)) (now (marks .entry))) (now (bytes .entry)) (now (out .entry)) .buffer ⌝ }
 {
-    let size = record_length(settings[1] as usize, settings[2] as usize);
+    let size = record_length(
+        settings[DIGITAL_COUNT] as usize,
+        settings[ANALOG_COUNT] as usize,
+    );
     let mut done = none_yet();
     let mut index = 0;
     let mut at = 0;
