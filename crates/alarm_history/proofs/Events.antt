@@ -3,7 +3,9 @@ use Prim.Native.Nat.{ℕ, suc}
 use mathlib.Core.Path.{_≡_, refl, sym, ap, _∙_}
 use mathlib.Core.Bool.{Bool}
 use mathlib.Core.List.{List, [], _∷_, _++_, foldr}
-use Rattle.settings.specs.Condition.{Condition, conditionsOf}
+use Rattle.settings.specs.Alarm.{ackRequired}
+use Rattle.settings.specs.Condition.{Condition, In, conditionsOf}
+use Rattle.settings.specs.Numbers.{reals, realAnalog}
 use Rattle.settings.specs.declared.types.Alarm.{Alarm}
 use Rattle.settings.specs.declared.types.Limits.{Limits}
 use Rattle.settings.specs.declared.types.Severities.{Severities}
@@ -14,10 +16,11 @@ use Rattle.step.specs.Internal.Digital.{digitalEvents}
 use Rattle.step.specs.Internal.Analog.{analogEvents}
 use Rattle.step.specs.Internal.Events.{eventAt, eventsFrom}
 use Rattle.alarm_history.specs.Scans.{Scan, suppressedIn}
+use Rattle.alarm_history.specs.Facts.{Rules, rulesOf}
 use Rattle.alarm_history.specs.Events.{conditionEvent, wholeLog, conditionLog, alarmLog}
 use Rattle.alarm_history.specs.Internal.After.{digitalFrom, analogFrom, wholeBits, conditionBits}
-use Rattle.alarm_history.proofs.Digital.{digital-required, digital-bits}
-use Rattle.alarm_history.proofs.Analog.{analog-required, analog-bits}
+use Rattle.alarm_history.proofs.Digital.{digital-required, digital-rules, digital-bits}
+use Rattle.alarm_history.proofs.Analog.{six, analog-required, analog-rules, analog-bits}
 
 module _ (n : ℕ) (a : Alarm) (s : Scan) (past : List Scan) where
   -- the events of the bits from the k-th on
@@ -34,13 +37,13 @@ module _ (n : ℕ) (a : Alarm) (s : Scan) (past : List Scan) where
       (event k ≡ conditionEvent n a s past c 6) × (event (suc k) ≡ conditionEvent n a s past c 7) × (event (suc (suc k)) ≡ conditionEvent n a s past c 8)
       × Placed (suc (suc (suc k))) cs
 
-  conditions-log : (k : ℕ) (cs : List Condition) → Placed k cs → from k (foldr (conditionBits a s past) [] cs) ≡ foldr (conditionLog n a s past) [] cs
+  conditions-log : (k : ℕ) (cs : List Condition) → Placed k cs → from k (foldr (conditionBits (rulesOf a) s past) [] cs) ≡ foldr (conditionLog n a s past) [] cs
   unfolding eventsFrom
   conditions-log k [] p = refl
   conditions-log k (c ∷ cs) p = rw (p .0, p .1, p .2, conditions-log (suc (suc (suc k))) cs (p .3))
 
   whole-log : (cs : List Condition) → Placed 6 cs
-      → from 0 (wholeBits s past ++ foldr (conditionBits a s past) [] cs) ≡ wholeLog n a s past (foldr (conditionLog n a s past) [] cs)
+      → from 0 (wholeBits s past ++ foldr (conditionBits (rulesOf a) s past) [] cs) ≡ wholeLog n a s past (foldr (conditionLog n a s past) [] cs)
   unfolding eventsFrom
   whole-log cs p = ap (wholeLog n a s past) (conditions-log 6 cs p)
 
@@ -49,7 +52,7 @@ module _ (n : ℕ) (a : Alarm) (s : Scan) (past : List Scan) where
   placed (Analog limits severities period) e =
       (rw e, rw e, rw e, (rw e, rw e, rw e, (rw e, rw e, rw e, (rw e, rw e, rw e, (rw e, rw e, rw e, (rw e, rw e, rw e, tt))))))
 
-  pub log-is : from 0 (wholeBits s past ++ foldr (conditionBits a s past) [] (conditionsOf (a .kind))) ≡ alarmLog n a s past
+  pub log-is : from 0 (wholeBits s past ++ foldr (conditionBits (rulesOf a) s past) [] (conditionsOf (a .kind))) ≡ alarmLog n a s past
   log-is = whole-log (conditionsOf (a .kind)) (placed (a .kind) refl)
 
   -- of the state that the scans before it leave
@@ -58,13 +61,15 @@ module _ (n : ℕ) (a : Alarm) (s : Scan) (past : List Scan) where
   digital-log-is k =
       ap (from 0)
       (digital-bits a (digital-required a k) s past
-      ∙ sym (ap (λ (cs : List Condition). wholeBits s past ++ foldr (conditionBits a s past) [] cs) (ap conditionsOf k)))
+      ∙ ap (λ (r : Rules). wholeBits s past ++ conditionBits r s past In []) (sym (digital-rules a k))
+      ∙ sym (ap (λ (cs : List Condition). wholeBits s past ++ foldr (conditionBits (rulesOf a) s past) [] cs) (ap conditionsOf k)))
       ∙ log-is
 
   pub analog-log-is : {limits : Limits} {severities : Severities} {period : ℕ} → a .kind ≡ Analog limits severities period
-      → from 0 (analogEvents a (s .reading) (s .word) (s .time) (analogFrom a past)) ≡ alarmLog n a s past
+      → from 0 (analogEvents reals (realAnalog a) (s .reading) (s .word) (s .time) (analogFrom reals (realAnalog a) (ackRequired (a .kind) (a .flags)) past)) ≡ alarmLog n a s past
   analog-log-is k =
       ap (from 0)
-      (analog-bits a (analog-required a k) s past
-      ∙ sym (ap (λ (cs : List Condition). wholeBits s past ++ foldr (conditionBits a s past) [] cs) (ap conditionsOf k)))
+      (analog-bits reals (realAnalog a) (analog-required a k) s past
+      ∙ ap (λ (r : Rules). wholeBits s past ++ foldr (conditionBits r s past) [] six) (sym (analog-rules a k))
+      ∙ sym (ap (λ (cs : List Condition). wholeBits s past ++ foldr (conditionBits (rulesOf a) s past) [] cs) (ap conditionsOf k)))
       ∙ log-is

@@ -8,7 +8,7 @@ use Rattle.history.specs.Demand.{activation, answer, return}
 use Rattle.condition.specs.Severity.{acting}
 use Rattle.condition.specs.Event.{Event}
 use Rattle.alarm_history.specs.Scans.{Scan, disabledIn, suppressedIn, countReset}
-use Rattle.alarm_history.specs.Facts.{facts}
+use Rattle.alarm_history.specs.Facts.{rulesOf, facts}
 
 -- an event that happens, in front of the rest
 abbrev pub when : Bool → Event → List Event → List Event
@@ -39,8 +39,8 @@ module _ (n : ℕ) (a : Alarm) (s : Scan) (past : List Scan) where
   -- of a condition: was unacknowledged and is acknowledged, was in alarm and is cleared, is activated; a disabled alarm has none of these
   abbrev pub conditionLog : Condition → List Event → List Event
   conditionLog c rest =
-      when (answer (facts a) c s past) (conditionEvent c 6)
-      (when (return (facts a) c s past) (conditionEvent c 7) (when (activation (facts a) c s past) (conditionEvent c 8) rest))
+      when (answer (facts (rulesOf a)) c s past) (conditionEvent c 6)
+      (when (return (facts (rulesOf a)) c s past) (conditionEvent c 7) (when (activation (facts (rulesOf a)) c s past) (conditionEvent c 8) rest))
 
   -- those of the whole alarm, then of each condition by number
   abbrev pub alarmLog : List Event

@@ -7,11 +7,12 @@ use lib.ListN.{length, getD, replicate, length-append}
 use Rattle.wire.specs.Bits.{bit}
 use Rattle.wire.proofs.WordLaws.{word-lt}
 use Rattle.settings.specs.Alarm.{blank, formAt}
+use Rattle.settings.specs.Numbers.{reals, realAnalog}
 use Rattle.settings.specs.declared.types.Alarm.{Alarm}
 use Rattle.settings.specs.declared.types.Kind.{Kind}
 use Rattle.settings.specs.declared.types.Kind.the-variants.{Digital, Analog}
 use Rattle.settings.specs.declared.types.Reading.{Reading}
-use Rattle.step.specs.Internal.Held.{freshState, lookDigital, lookAnalog}
+use Rattle.step.specs.Internal.Held.{freshState, lookDigital, realPatterns, lookAnalog}
 use Rattle.step.specs.Internal.Digital.{digitalEvents, digitalStep}
 use Rattle.step.specs.Internal.Analog.{analogEvents, analogStep}
 use Rattle.step.specs.Internal.Step.{stepKind}
@@ -31,7 +32,7 @@ use Rattle.bank.proofs.Places.{placed-below}
 step-word : (k : Kind) (a : Alarm) (s : State) (x : Reading) (word time : ℕ) → stepKind k a s x word time .events < 2 ^ 24
 unfolding stepKind digitalStep analogStep
 step-word (Digital severity) a s x word time = omega (arith, word-lt (digitalEvents a x word time (lookDigital s)))
-step-word (Analog g severities period) a s x word time = omega (arith, word-lt (analogEvents a x word time (lookAnalog s)))
+step-word (Analog g severities period) a s x word time = omega (arith, word-lt (analogEvents reals (realAnalog a) x word time (lookAnalog realPatterns s)))
 
 entry-word : (e : Entry) (a : Alarm) (s : State) (time : ℕ) → stepEntry e a s time .events < 2 ^ 24
 entry-word (Read x word next) a s time = step-word (a .kind) a s x word time
@@ -70,7 +71,8 @@ module _ (number : ℕ) (a : Alarm) (s after : State) (x : Reading) (word time :
   unfolding digitalStep
   digital-log = events-bits number (a .kind) (bit (after .flags) 1) time 24 0 (digitalEvents a x word time (lookDigital s)) (omega arith)
 
-  pub analog-log : alarmEvents number a after (analogStep a s x word time .events) time
-      ≡ eventsFrom number (a .kind) (bit (after .flags) 1) time 0 (analogEvents a x word time (lookAnalog s))
+  pub analog-log : alarmEvents number a after (analogStep reals realPatterns (realAnalog a) s x word time .events) time
+      ≡ eventsFrom number (a .kind) (bit (after .flags) 1) time 0 (analogEvents reals (realAnalog a) x word time (lookAnalog realPatterns s))
   unfolding analogStep
-  analog-log = events-bits number (a .kind) (bit (after .flags) 1) time 24 0 (analogEvents a x word time (lookAnalog s)) (omega arith)
+  analog-log =
+      events-bits number (a .kind) (bit (after .flags) 1) time 24 0 (analogEvents reals (realAnalog a) x word time (lookAnalog realPatterns s)) (omega arith)

@@ -8,6 +8,7 @@ use native.Mathlib.Omega.{arith}
 use lib.ListN.{length}
 use Rattle.wire.specs.Bits.{bit}
 use Rattle.settings.specs.Alarm.{formAt}
+use Rattle.settings.specs.Numbers.{reals, realAnalog}
 use Rattle.settings.specs.declared.types.Alarm.{Alarm}
 use Rattle.settings.specs.declared.types.Form.{Form}
 use Rattle.settings.specs.declared.types.Form.the-variants.{Digital, Analog}
@@ -16,7 +17,7 @@ use Rattle.layout.specs.Internal.Block.{alarmAt, digitalIn}
 use Rattle.scan_record.specs.Part.{timeOf, readingAt, wordAt}
 use Rattle.condition.specs.Event.{logBytes}
 use Rattle.event.proofs.Logs.{log-length}
-use Rattle.step.specs.Internal.Held.{lookDigital, lookAnalog}
+use Rattle.step.specs.Internal.Held.{lookDigital, realPatterns, lookAnalog}
 use Rattle.step.specs.Internal.Digital.{digitalEvents}
 use Rattle.step.specs.Internal.Analog.{analogEvents}
 use Rattle.step.specs.Internal.State.{State, stateIn, stateAt}
@@ -59,8 +60,8 @@ module _ (settings states rec : List ℕ) (at p time : ℕ) where
       omega (
         arith,
         ap length (analog-log (p + 1) a s after x word time),
-        events-number (p + 1) (a .kind) (bit (after .flags) 1) time 0 (analogEvents a x word time (lookAnalog s)),
-        analog-most a x word time (lookAnalog s),
+        events-number (p + 1) (a .kind) (bit (after .flags) 1) time 0 (analogEvents reals (realAnalog a) x word time (lookAnalog realPatterns s)),
+        analog-most reals (realAnalog a) x word time (lookAnalog realPatterns s),
       )
 
 module _ (w : Words) (rec : List ℕ) where

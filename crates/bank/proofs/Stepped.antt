@@ -9,6 +9,7 @@ use lib.ListN.{length, getD}
 use lib.Seq.{sets}
 use Rattle.wire.specs.Number.{number}
 use Rattle.settings.specs.Alarm.{formAt}
+use Rattle.settings.specs.Numbers.{realAnalog}
 use Rattle.settings.specs.declared.types.Form.{Form}
 use Rattle.settings.specs.declared.types.Form.the-variants.{Digital, Analog}
 use Rattle.layout.specs.Internal.Words.{lowerOf, alarmIn}
@@ -27,10 +28,12 @@ module _ (settings states rec : List ℕ) (at p time : ℕ) where
 
   small : (form : Form) → Small (stepped form)
   unfolding stepKind alarmIn
-  small Digital = small-digital (alarmIn Digital settings (alarmAt p)) (stateIn states (stateAt p)) (readingAt Digital rec at) (wordAt Digital rec at) time (small-in states (stateAt p))
+  small Digital =
+      small-digital (stateIn states (stateAt p)) (readingAt Digital rec at) (wordAt Digital rec at) time (small-in states (stateAt p))
+      (alarmIn Digital settings (alarmAt p))
   small Analog =
-      small-analog (alarmIn Analog settings (alarmAt p)) (stateIn states (stateAt p)) (readingAt Analog rec at) (wordAt Analog rec at) time (small-in states (stateAt p))
-      (ofBits-fits binary32 (number rec at 4))
+      small-analog (stateIn states (stateAt p)) (readingAt Analog rec at) (wordAt Analog rec at) time (small-in states (stateAt p))
+      (realAnalog (alarmIn Analog settings (alarmAt p))) (ofBits-fits binary32 (number rec at 4))
 
   -- what is stored is read back
   pub stepped-back : (form : Form) → p < 24 → length states ≡ 580 → {l : List ℕ} → l ≡ sets states (stateAt p) (stateWords (stepped form))

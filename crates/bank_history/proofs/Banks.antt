@@ -12,6 +12,7 @@ use Rattle.wire.specs.Number.{number}
 use Rattle.condition.specs.Internal.Mark.{marksAfter, timeStampAfter, noMarks}
 use Rattle.settings.specs.Alarm.{ackRequired, formAt}
 use Rattle.settings.specs.Internal.Sound.{Sound}
+use Rattle.settings.specs.Numbers.{reals, realAnalog}
 use Rattle.settings.specs.declared.types.Alarm.{Alarm}
 use Rattle.settings.specs.declared.types.Settings.{Settings}
 use Rattle.settings.specs.declared.types.Limits.{Limits}
@@ -22,12 +23,12 @@ use Rattle.settings.specs.declared.types.Form.{Form}
 use Rattle.settings.specs.declared.types.Form.the-variants.{Digital as DigitalForm, Analog as AnalogForm}
 use Rattle.settings.specs.declared.reply.Reply.the-variants.{Accepted}
 use Rattle.image.specs.Internal.Accepted.{AcceptedFrom}
-use Rattle.step.specs.Internal.Held.{freshState, lookDigital, lookAnalog, runOf, cellOf, Six, HH, H, L, LL, ROCPos, ROCNeg, Side, High, Low, place}
+use Rattle.step.specs.Internal.Held.{freshState, lookDigital, realPatterns, lookAnalog, runOf, cellOf, Six, HH, H, L, LL, ROCPos, ROCNeg, Side, High, Low, place}
 use Rattle.step.specs.Internal.Digital.{digitalStep}
 use Rattle.step.specs.Internal.Analog.{analogStep}
 use Rattle.step.specs.Internal.Step.{stepKind, stepOf}
 use Rattle.step.specs.Internal.State.{State, Stepped, startsOf}
-use Rattle.step.proofs.Laws.{InRecord}
+use Rattle.step.proofs.Laws.{InRecord, look-analog}
 use Rattle.alarm_history.specs.Scans.{Scan}
 use Rattle.alarm_history.specs.Internal.After.{freshAnalog, resetKept, digitalRun, analogRun, digitalMarks, analogMarks}
 use Rattle.alarm_history.proofs.Digital.{digital-required}
@@ -57,7 +58,7 @@ pub record Kept (image : List ℕ) (past : List (List ℕ)) (b : Bank) : Type 0 
   pub digital : (p : ℕ) → p < b .settings .digital
       → DigitalView (alarmAt (b .settings) p) (stateAt b p) (b .marks) (25 * p) (scansAt (b .settings) p past)
   pub analog : (p : ℕ) → b .settings .digital ≤ p → p < b .settings .digital + b .settings .analog
-      → AnalogView (alarmAt (b .settings) p) (stateAt b p) (b .marks) (25 * p) (scansAt (b .settings) p past)
+      → AnalogView reals realPatterns (realAnalog (alarmAt (b .settings) p)) (stateAt b p) (b .marks) (25 * p) (scansAt (b .settings) p past)
 
 -- ---- a fresh bank
 
@@ -70,11 +71,11 @@ no-marks : (at : ℕ) → marksAt (replicate 900 0) at ≡ noMarks
 no-marks at =
     λ i. record { count = zeros 900 at i; alarm = zeros 900 (at + 1) i; ack = zeros 900 (at + 2) i; return = zeros 900 (at + 3) i }
 
-fresh-run : (s : Side) → runOf freshState s ≡ freshAnalog .run s
+fresh-run : (s : Side) → runOf freshState s ≡ freshAnalog reals .run s
 fresh-run High = refl
 fresh-run Low = refl
 
-fresh-cell : (c : Six) → cellOf freshState c ≡ freshAnalog .cell c
+fresh-cell : (c : Six) → cellOf freshState c ≡ freshAnalog reals .cell c
 fresh-cell HH = refl
 fresh-cell H = refl
 fresh-cell L = refl
@@ -82,7 +83,7 @@ fresh-cell LL = refl
 fresh-cell ROCPos = refl
 fresh-cell ROCNeg = refl
 
-fresh-analog : lookAnalog freshState ≡ freshAnalog
+fresh-analog : lookAnalog realPatterns freshState ≡ freshAnalog reals
 fresh-analog =
     λ i.
     record {
@@ -91,7 +92,7 @@ fresh-analog =
       faulted = false;
       held = false;
       previous = 0;
-      sample = freshAnalog .sample;
+      sample = freshAnalog reals .sample;
       run = fun-ext fresh-run i;
       cell = fun-ext fresh-cell i;
     }
@@ -112,7 +113,7 @@ fresh-kept image s ok =
           };
       analog = λ p l h.
           record {
-            held = ap lookAnalog (getD-replicate 24 p freshState freshState (omega (arith, ok .digital-most, ok .analog-most))) ∙ fresh-analog;
+            held = ap (lookAnalog realPatterns) (getD-replicate 24 p freshState freshState (omega (arith, ok .digital-most, ok .analog-most))) ∙ fresh-analog;
             marked = λ c. no-marks (25 * p + 1 + 4 * place c);
             stamped = zeros 900 (25 * p);
           };
@@ -177,7 +178,8 @@ module _ (image : List ℕ) (past : List (List ℕ)) (b : Bank) (rec : List ℕ)
       stepped-is p (omega arith) ∙ ap (λ (q : Kind). stepKind q (alarm p) (stateAt b p) (seen p .reading) (seen p .word) (seen p .time)) (digital-of p h .1)
 
   pub analog-stepped : (p : ℕ) → digital ≤ p → p < alarmsOf b
-      → stepAt rec digital (b .settings .alarms) (b .states) (timeOf rec) p ≡ analogStep (alarm p) (stateAt b p) (seen p .reading) (seen p .word) (seen p .time)
+      → stepAt rec digital (b .settings .alarms) (b .states) (timeOf rec) p
+      ≡ analogStep reals realPatterns (realAnalog (alarm p)) (stateAt b p) (seen p .reading) (seen p .word) (seen p .time)
   unfolding stepKind
   analog-stepped p l h =
       stepped-is p h ∙ ap (λ (q : Kind). stepKind q (alarm p) (stateAt b p) (seen p .reading) (seen p .word) (seen p .time)) (analog-of p l h .3)
@@ -227,12 +229,15 @@ module _ (image : List ℕ) (past : List (List ℕ)) (b : Bank) (rec : List ℕ)
       (stamped-after p l e))
 
   analog-next : (p : ℕ) → digital ≤ p → p < alarmsOf b
-      → AnalogView (alarm p) (getD (planFor b rec .states) p freshState) marksNext (25 * p) (scansAt (b .settings) p (rec ∷ past))
+      → AnalogView reals realPatterns (realAnalog (alarm p)) (getD (planFor b rec .states) p freshState) marksNext (25 * p) (scansAt (b .settings) p (rec ∷ past))
   analog-next p l h =
       let e = analog-stepped p l h in
-      subst (λ (s : State). AnalogView (alarm p) s marksNext (25 * p) (scansAt (b .settings) p (rec ∷ past)))
+      let a = realAnalog (alarm p) in
+      let x = seen p in
+      let read = look-analog a (stateAt b p) (x .reading) (x .word) (x .time) (in-record (formAt digital p) rec (offsetOf digital p)) in
+      subst (λ (s : State). AnalogView reals realPatterns a s marksNext (25 * p) (scansAt (b .settings) p (rec ∷ past)))
       (sym (state-after p h ∙ ap (λ (t : Stepped). t .state) e))
-      (analog-view (alarm p) (stateAt b p) (seen p) (in-record (formAt digital p) rec (offsetOf digital p)) (b .marks) marksNext (25 * p) (scansAt (b .settings) p past) (v .analog p l h)
+      (analog-view reals realPatterns a (stateAt b p) x read (b .marks) marksNext (25 * p) (scansAt (b .settings) p past) (v .analog p l h)
       (λ c. rw (← analog-required (alarm p) (analog-of p l h .3)) at (marked-after p (place c) h (place-six c) e))
       (stamped-after p h e))
 

@@ -10,10 +10,11 @@ use lib.Dec.{ltb}
 use lib.Count.{ones, ones-step}
 use lib.ListN.{length, getD}
 use Rattle.wire.specs.Internal.Words.{wordOf}
+use Rattle.settings.specs.Numbers.{reals, realAnalog}
 use Rattle.settings.specs.declared.reply.Reply.the-variants.{Accepted}
 use Rattle.settings.specs.declared.types.Kind.{Kind}
 use Rattle.settings.specs.declared.types.Kind.the-variants.{Digital, Analog}
-use Rattle.step.specs.Internal.Held.{lookDigital, lookAnalog}
+use Rattle.step.specs.Internal.Held.{lookDigital, realPatterns, lookAnalog}
 use Rattle.step.specs.Internal.Digital.{digitalEvents, digitalStep}
 use Rattle.step.specs.Internal.Analog.{analogEvents, analogStep}
 use Rattle.settings.specs.declared.types.Alarm.{Alarm}
@@ -65,7 +66,8 @@ unfolding stepKind digitalStep analogStep
 step-most (Digital severity) a s x word time =
     omega (arith, word-ones (digitalEvents a x word time (lookDigital s)), digital-most a x word time (lookDigital s))
 step-most (Analog g severities period) a s x word time =
-    omega (arith, word-ones (analogEvents a x word time (lookAnalog s)), analog-most a x word time (lookAnalog s))
+    let held = lookAnalog realPatterns s in
+    omega (arith, word-ones (analogEvents reals (realAnalog a) x word time held), analog-most reals (realAnalog a) x word time held)
 
 digital-step-most : (severity : ℕ) (a : Alarm) (s : State) (x : Reading) (word time : ℕ) → ones (stepKind (Digital severity) a s x word time .events) ≤ 5
 unfolding stepKind digitalStep

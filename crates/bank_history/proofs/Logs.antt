@@ -8,6 +8,8 @@ use native.Mathlib.Nat.{le-refl}
 use borrow.Author.Tests.{ltb-true, ltb-false}
 use lib.Dec.{ltb}
 use lib.ListN.{getD}
+use lib.Ieee.{Float}
+use Rattle.settings.specs.Numbers.{reals, realAnalog}
 use Rattle.settings.specs.declared.types.Alarm.{Alarm}
 use Rattle.settings.specs.declared.reply.Reply.the-variants.{Accepted}
 use Rattle.condition.specs.Event.{Event}
@@ -68,11 +70,13 @@ module _ (image : List ℕ) (past : List (List ℕ)) (b : Bank) (rec : List ℕ)
       let k = analog-of image past b rec v ok p low l .3 in
       let q = analog-required (alarm p) k in
       let w = word-after image past b rec v ok p l ∙ ap (λ (t : Stepped). t .events) (analog-stepped image past b rec v ok p low l) in
-      let was = v .analog p low l .held ∙ analog-run (alarm p) q (before p) in
-      let is = next-kept image past b rec v ok .analog p low l .held ∙ analog-run (alarm p) q (seen p ∷ before p) in
+      let was = v .analog p low l .held ∙ analog-run reals (realAnalog (alarm p)) q (before p) in
+      let is = next-kept image past b rec v ok .analog p low l .held ∙ analog-run reals (realAnalog (alarm p)) q (seen p ∷ before p) in
       ap (λ (x : ℕ). alarmEvents (suc p) (alarm p) (getD (planFor b rec .states) p freshState) x (timeOf rec)) w
       ∙ analog-log (suc p) (alarm p) (stateAt b p) (getD (planFor b rec .states) p freshState) (seen p .reading) (seen p .word) (timeOf rec)
-      ∙ ap₂ (λ (x y : AnalogHeld). eventsFrom (suc p) (alarm p .kind) (x .suppressed) (timeOf rec) 0 (analogEvents (alarm p) (seen p .reading) (seen p .word) (seen p .time) y)) is was
+      ∙ ap₂ (λ (x y : AnalogHeld Float).
+      eventsFrom (suc p) (alarm p .kind) (x .suppressed) (timeOf rec) 0
+      (analogEvents reals (realAnalog (alarm p)) (seen p .reading) (seen p .word) (seen p .time) y)) is was
       ∙ analog-log-is (suc p) (alarm p) (seen p) (before p) k
 
   here-said : (p : ℕ) → p < alarmsOf b → here p ≡ said p

@@ -4,10 +4,14 @@ use mathlib.Core.Bool.{Bool, true, false, not, _||_, or-false}
 use mathlib.Core.List.{List, [], _∷_, _++_, map}
 use Prim.Native.Nat.{ℕ, _*_, _<_}
 use lib.Dec.{ltb}
+use lib.Ieee.{Float}
 use lib.ListN.{getD, take}
 use borrow.Author.Tests.{ltb-true, ltb-false}
+use Rattle.wire.specs.Real.{zeroReal}
 use Rattle.settings.specs.Condition as C
-use Rattle.settings.specs.Condition.{In, conditionsOf}
+use Rattle.settings.specs.Condition.{Condition, In, conditionsOf}
+use Rattle.settings.specs.Alarm.{ackRequired}
+use Rattle.settings.specs.Numbers.{Numbers, AnalogOf, reals, realAnalog}
 use Rattle.settings.specs.declared.reply.Reply.the-variants.{Accepted}
 use Rattle.settings.specs.declared.types.Alarm.{Alarm}
 use Rattle.settings.specs.declared.types.Limits.{Limits}
@@ -19,26 +23,29 @@ use Rattle.history.specs.Internal.Row.{begun}
 use Rattle.history.proofs.Condition.{kept-alarm, kept-unacked}
 use Rattle.condition.specs.Severity.{severityInvalid}
 use Rattle.condition.specs.Internal.Mark.{Marks}
-use Rattle.step.specs.Internal.Held.{Six, HH, H, L, LL, ROCPos, ROCNeg, ofSix, place, DigitalHeld, lookDigital, AnalogHeld, lookAnalog}
+use Rattle.step.specs.Internal.Held.{Six, HH, H, L, LL, ROCPos, ROCNeg, ofSix, place, DigitalHeld, lookDigital, AnalogHeld, Patterns, realPatterns, lookAnalog}
+use Rattle.step.specs.Internal.Digital.{digitalRequired}
+use Rattle.step.specs.Internal.Analog.{analogRequired}
 use Rattle.step.specs.Internal.State.{State}
 use Rattle.alarm_history.specs.Scans.{Scan, disabledIn, suppressedIn, faultedIn, lastTime}
-use Rattle.alarm_history.specs.Facts.{sampleIn, freesIn, facts}
-use Rattle.alarm_history.specs.Stamps.{resetStamp}
-use Rattle.alarm_history.specs.Internal.After.{elapsed, digitalRun, digitalFrom, analogRun, analogFrom, marksIn}
+use Rattle.alarm_history.specs.Sample.{rateIn}
+use Rattle.alarm_history.specs.Facts.{Rules, digitalRules, analogRules, rulesBy, facts}
+use Rattle.alarm_history.specs.Stamps.{resetStamp, elapsedIn}
+use Rattle.alarm_history.specs.Internal.After.{elapsed, keptIn, digitalRun, digitalFrom, analogRun, analogFrom, marksIn}
 use Rattle.alarm_history.proofs.Marks.{clear, elapsed-is, reset-stamp}
-use Rattle.alarm_history.proofs.Digital.{digital-required, digital-rate, run-own, digital-run, digital-report}
-use Rattle.alarm_history.proofs.Analog.{analog-required, analog-run, analog-report}
+use Rattle.alarm_history.proofs.Digital.{digital-required, run-own, digital-run, digital-report}
+use Rattle.alarm_history.proofs.Analog.{six, analog-required, analog-run, analog-report}
 use Rattle.bank.specs.Internal.Scan.{alarmsOf}
 use Rattle.bank.specs.Internal.Bank.{Bank}
 use Rattle.report.specs.Empty.{noStatus, noStatuses}
 use Rattle.report.specs.Internal.Status.{digitalStatuses, analogStatuses, statusesOf}
-use Rattle.report.specs.Internal.Whole.{anyInvalid, digitalWhole, analogWhole, wholeKind, wholeOf}
+use Rattle.report.specs.Internal.Whole.{anyInvalid, digitalWhole, shownReal, analogWhole, wholeKind, wholeOf}
 use Rattle.report.specs.Internal.Report.{reportAt}
 use Rattle.report.specs.declared.status.Status.{Status}
 use Rattle.report.specs.declared.report.AlarmReport.{AlarmReport}
 use Rattle.report.proofs.Reports.{status-digital, status-analog}
 use Rattle.bank_history.specs.Answers.{alarmAt, scanAt, scansAt, lastAccepted}
-use Rattle.bank_history.specs.Report.{severityInv, highRun, lowRun, statusOf, alarmReport}
+use Rattle.bank_history.specs.Report.{severityInv, rateOf, highRun, lowRun, statusOf, alarmReport}
 use Rattle.bank_history.proofs.Views.{DigitalView, AnalogView}
 use Rattle.bank_history.proofs.Banks.{Kept, stateAt, digital-kind, analog-kind}
 
@@ -61,116 +68,161 @@ unfolding anyInvalid
 any-invalid s g period =
     any-of (severityInvalid (s .hh)) (severityInvalid (s .h)) (severityInvalid (s .l)) (severityInvalid (s .ll)) (severityInvalid (s .rocpos)) (severityInvalid (s .rocneg))
 
-module _ (a : Alarm) (s : State) (words : List ℕ) (at time : ℕ) (scans : List Scan) (t : time ≡ lastTime scans) where
-  -- the bank's report, and what the scans say, of an alarm of this kind
-  abbrev given : Kind → AlarmReport
-  given q = record { reply = Accepted; alarm = wholeKind q (a .duration) s time; resettime = getD words at 0; conditions = statusesOf q words at (s .flags) }
+-- a condition's status, from what is kept of it
+abbrev statusBy : Bool → Bool → Marks → Status
+statusBy alarm unacked m =
+    record { alarm = alarm; acked = not unacked; count = m .count; alarmtime = m .alarm; acktime = m .ack; returntime = m .return }
 
-  abbrev said : Kind → AlarmReport
-  said q =
-      record {
-        reply = Accepted;
-        alarm = record {
+-- what is kept of a condition is what the scans say of it
+status-kept : (r : Rules) (scans : List Scan) (c : Condition)
+    → statusBy (keptIn r scans c .alarm) (keptIn r scans c .unacked) (marksIn r c scans) ≡ statusOf r scans c
+status-kept r scans c =
+    λ i. statusBy (kept-alarm (facts r) (r .frees) (clear r) scans c i) (kept-unacked (facts r) (r .frees) (clear r) scans c i) (marksIn r c scans)
+
+module _ (s : State) (words : List ℕ) (at time : ℕ) (scans : List Scan) (t : time ≡ lastTime scans) where
+  -- ---- a digital alarm
+
+  module _ (a : Alarm) (severity : ℕ) (asked : digitalRequired (a .flags) ≡ ackRequired (a .kind) (a .flags)) (v : DigitalView a s words at scans) where
+    held : lookDigital s ≡ digitalFrom a scans
+    held = v .held ∙ digital-run a asked scans
+
+    -- how long the run of scans with p has lasted, from the start that is kept
+    abbrev lasts : Fact Scan → ℕ
+    lasts p = elapsed (a .duration) (holds p scans) (begun (λ x. x .time) p scans) (lastTime scans)
+
+    digital-whole : {b : Bool} → severityInvalid severity ≡ b → digitalWhole severity (a .duration) (lookDigital s) time
+        ≡ record {
           enabled = not (disabledIn scans);
           suppressed = suppressedIn scans;
           infaulted = faultedIn scans;
-          severityinv = severityInv q;
-          rate = sampleIn a scans .rate;
-          high = highRun q a scans;
-          low = lowRun q a scans;
-        };
-        resettime = resetStamp scans;
-        conditions = take 6 (map (statusOf a scans) (conditionsOf q) ++ noStatuses);
-      }
-
-  -- how long the run of scans with p has lasted, from the start that is kept
-  abbrev lasts : Fact Scan → ℕ
-  lasts p = elapsed (a .duration) (holds p scans) (begun (λ x. x .time) p scans) (lastTime scans)
-
-  -- a condition's status, from what is kept of it
-  abbrev statusBy : Bool → Bool → Marks → Status
-  statusBy alarm unacked m =
-      record { alarm = alarm; acked = not unacked; count = m .count; alarmtime = m .alarm; acktime = m .ack; returntime = m .return }
-
-  -- ---- a digital alarm
-
-  module _ (severity : ℕ) (k : a .kind ≡ Digital severity) (v : DigitalView a s words at scans) where
-    held : lookDigital s ≡ digitalFrom a scans
-    held = v .held ∙ digital-run a (digital-required a k) scans
-
-    digital-whole : digitalWhole severity (a .duration) (lookDigital s) time ≡ said (Digital severity) .alarm
-    digital-whole =
+          severityinv = b;
+          rate = zeroReal;
+          high = elapsedIn (digitalRules a) In scans;
+          low = 0;
+        }
+    digital-whole e =
         ap₂ (λ (d : DigitalHeld) (u : ℕ). digitalWhole severity (a .duration) d u) held t
         ∙ (λ i.
         record {
           enabled = not (disabledIn scans);
           suppressed = suppressedIn scans;
           infaulted = faultedIn scans;
-          severityinv = sym (or-false (severityInvalid severity)) i;
-          rate = sym (digital-rate a k scans) i;
-          high = (ap lasts (sym (run-own a (digital-required a k))) ∙ elapsed-is a In scans) i;
+          severityinv = e i;
+          rate = zeroReal;
+          high = (ap lasts (sym (run-own a asked)) ∙ elapsed-is (digitalRules a) In scans) i;
           low = 0;
         })
 
-    digital-status : getD (digitalStatuses words at (s .flags)) 0 noStatus ≡ statusOf a scans In
+    digital-status : getD (digitalStatuses words at (s .flags)) 0 noStatus ≡ statusOf (digitalRules a) scans In
     digital-status =
         status-digital words at s
-        ∙ ap₂ (λ (d : DigitalHeld) (m : Marks). statusBy (d .cell .alarm) (d .cell .unacked) m) held (v .marked ∙ digital-report a (digital-required a k) scans)
-        ∙ (λ i. statusBy (kept-alarm (facts a) (freesIn a) (clear a) scans In i) (kept-unacked (facts a) (freesIn a) (clear a) scans In i) (marksIn a In scans))
+        ∙ ap₂ (λ (d : DigitalHeld) (m : Marks). statusBy (d .cell .alarm) (d .cell .unacked) m) held (v .marked ∙ digital-report a asked scans)
+        ∙ status-kept (digitalRules a) scans In
 
-    digital-said : given (Digital severity) ≡ said (Digital severity)
-    unfolding digitalStatuses noStatuses
-    digital-said =
-        λ i.
-        record {
-          reply = Accepted;
-          alarm = digital-whole i;
-          resettime = (v .stamped ∙ reset-stamp (λ past. digitalRun a past .previous) (λ past. ap (λ d. d .previous) (digital-run a (digital-required a k) past)) scans) i;
-          conditions = digital-status i ∷ noStatus ∷ noStatus ∷ noStatus ∷ noStatus ∷ noStatus ∷ [];
+    digital-reset : getD words at 0 ≡ resetStamp scans
+    digital-reset = v .stamped ∙ reset-stamp (λ past. digitalRun a past .previous) (λ past. ap (λ d. d .previous) (digital-run a asked past)) scans
+
+  -- ---- an analog alarm, of any form of numbers
+
+  module _ {X : Type 0} (n : Numbers X) (q : Patterns X) (shown : X → Float) (a : AnalogOf X) {required : Bool} (asked : analogRequired (a .flags) ≡ required)
+      (v : AnalogView n q a s words at scans) where
+    abbrev rules : Rules
+    rules = analogRules n a required
+
+    held-analog : lookAnalog q s ≡ analogFrom n a required scans
+    held-analog = v .held ∙ analog-run n a asked scans
+
+    analog-whole : (severities : Severities) {b : Bool} → anyInvalid severities ≡ b → analogWhole shown severities (a .duration) (lookAnalog q s) time
+        ≡ record {
+          enabled = not (disabledIn scans);
+          suppressed = suppressedIn scans;
+          infaulted = faultedIn scans;
+          severityinv = b;
+          rate = shown (rateIn n a scans);
+          high = elapsedIn rules C.HH scans;
+          low = elapsedIn rules C.L scans;
         }
-
-    pub digital-report-said : given (a .kind) ≡ alarmReport a scans
-    digital-report-said = subst (λ (q : Kind). given q ≡ said q) (sym k) digital-said
-
-  -- ---- an analog alarm
-
-  module _ (g : Limits) (severities : Severities) (period : ℕ) (k : a .kind ≡ Analog g severities period) (v : AnalogView a s words at scans) where
-    held-analog : lookAnalog s ≡ analogFrom a scans
-    held-analog = v .held ∙ analog-run a (analog-required a k) scans
-
-    analog-whole : analogWhole severities (a .duration) (lookAnalog s) time ≡ said (Analog g severities period) .alarm
-    analog-whole =
-        ap₂ (λ (h : AnalogHeld) (u : ℕ). analogWhole severities (a .duration) h u) held-analog t
+    analog-whole severities e =
+        ap₂ (λ (h : AnalogHeld X) (u : ℕ). analogWhole shown severities (a .duration) h u) held-analog t
         ∙ (λ i.
         record {
           enabled = not (disabledIn scans);
           suppressed = suppressedIn scans;
           infaulted = faultedIn scans;
-          severityinv = any-invalid severities g period i;
-          rate = sampleIn a scans .rate;
-          high = elapsed-is a C.HH scans i;
-          low = elapsed-is a C.L scans i;
+          severityinv = e i;
+          rate = shown (rateIn n a scans);
+          high = elapsed-is rules C.HH scans i;
+          low = elapsed-is rules C.L scans i;
         })
 
-    analog-status : (c : Six) → getD (analogStatuses words at (s .flags)) (place c) noStatus ≡ statusOf a scans (ofSix c)
+    analog-status : (c : Six) → getD (analogStatuses words at (s .flags)) (place c) noStatus ≡ statusOf rules scans (ofSix c)
     analog-status c =
         status-analog words at s c
-        ∙ ap₂ (λ (h : AnalogHeld) (m : Marks). statusBy (h .cell c .alarm) (h .cell c .unacked) m) held-analog (v .marked c ∙ analog-report a (analog-required a k) scans c)
-        ∙ (λ i. statusBy (kept-alarm (facts a) (freesIn a) (clear a) scans (ofSix c) i) (kept-unacked (facts a) (freesIn a) (clear a) scans (ofSix c) i) (marksIn a (ofSix c) scans))
+        ∙ ap₂ (λ (h : AnalogHeld X) (m : Marks). statusBy (h .cell c .alarm) (h .cell c .unacked) m) held-analog (v .marked c ∙ analog-report n a asked scans c)
+        ∙ status-kept rules scans (ofSix c)
 
-    analog-said : given (Analog g severities period) ≡ said (Analog g severities period)
+    analog-statuses : analogStatuses words at (s .flags) ≡ take 6 (map (statusOf rules scans) six ++ noStatuses)
     unfolding analogStatuses
-    analog-said =
+    analog-statuses =
+        λ i. analog-status HH i ∷ analog-status H i ∷ analog-status L i ∷ analog-status LL i ∷ analog-status ROCPos i ∷ analog-status ROCNeg i ∷ []
+
+    analog-reset : getD words at 0 ≡ resetStamp scans
+    analog-reset = v .stamped ∙ reset-stamp (λ past. analogRun n a past .previous) (λ past. ap (λ h. h .previous) (analog-run n a asked past)) scans
+
+  -- ---- the whole report, by the kind
+
+  module _ (a : Alarm) where
+    -- the bank's, and what the scans say
+    abbrev given : Kind → AlarmReport
+    given k = record { reply = Accepted; alarm = wholeKind k (a .duration) s time; resettime = getD words at 0; conditions = statusesOf k words at (s .flags) }
+
+    abbrev said : Kind → AlarmReport
+    said k =
+        record {
+          reply = Accepted;
+          alarm = record {
+            enabled = not (disabledIn scans);
+            suppressed = suppressedIn scans;
+            infaulted = faultedIn scans;
+            severityinv = severityInv k;
+            rate = rateOf k a scans;
+            high = highRun k (rulesBy k a) scans;
+            low = lowRun k (rulesBy k a) scans;
+          };
+          resettime = resetStamp scans;
+          conditions = take 6 (map (statusOf (rulesBy k a) scans) (conditionsOf k) ++ noStatuses);
+        }
+
+    digital-said : (severity : ℕ) → digitalRequired (a .flags) ≡ ackRequired (a .kind) (a .flags) → DigitalView a s words at scans
+        → given (Digital severity) ≡ said (Digital severity)
+    unfolding digitalStatuses noStatuses
+    digital-said severity asked v =
         λ i.
         record {
           reply = Accepted;
-          alarm = analog-whole i;
-          resettime = (v .stamped ∙ reset-stamp (λ past. analogRun a past .previous) (λ past. ap (λ h. h .previous) (analog-run a (analog-required a k) past)) scans) i;
-          conditions = analog-status HH i ∷ analog-status H i ∷ analog-status L i ∷ analog-status LL i ∷ analog-status ROCPos i ∷ analog-status ROCNeg i ∷ [];
+          alarm = digital-whole a severity asked v (sym (or-false (severityInvalid severity))) i;
+          resettime = digital-reset a severity asked v i;
+          conditions = digital-status a severity asked v i ∷ noStatus ∷ noStatus ∷ noStatus ∷ noStatus ∷ noStatus ∷ [];
         }
 
-    pub analog-report-said : given (a .kind) ≡ alarmReport a scans
-    analog-report-said = subst (λ (q : Kind). given q ≡ said q) (sym k) analog-said
+    pub digital-report-said : (severity : ℕ) → a .kind ≡ Digital severity → DigitalView a s words at scans → given (a .kind) ≡ alarmReport a scans
+    digital-report-said severity k v = subst (λ (q : Kind). given q ≡ said q) (sym k) (digital-said severity (digital-required a k) v)
+
+    analog-said : (g : Limits) (severities : Severities) (period : ℕ) → analogRequired (a .flags) ≡ ackRequired (a .kind) (a .flags)
+        → AnalogView reals realPatterns (realAnalog a) s words at scans → given (Analog g severities period) ≡ said (Analog g severities period)
+    analog-said g severities period asked v =
+        λ i.
+        record {
+          reply = Accepted;
+          alarm = analog-whole reals realPatterns shownReal (realAnalog a) asked v severities (any-invalid severities g period) i;
+          resettime = analog-reset reals realPatterns shownReal (realAnalog a) asked v i;
+          conditions = analog-statuses reals realPatterns shownReal (realAnalog a) asked v i;
+        }
+
+    pub analog-report-said : (g : Limits) (severities : Severities) (period : ℕ) → a .kind ≡ Analog g severities period
+        → AnalogView reals realPatterns (realAnalog a) s words at scans → given (a .kind) ≡ alarmReport a scans
+    analog-report-said g severities period k v =
+        subst (λ (q : Kind). given q ≡ said q) (sym k) (analog-said g severities period (analog-required a k) v)
 
 -- ---- the alarm at a place
 
@@ -183,15 +235,15 @@ report-at image past b v p h = go (ltb p (b .settings .digital)) refl
     time = v .time ∙ last-of (scanAt (b .settings) p) (λ rec. refl) past
 
     go : (t : Bool) → ltb p (b .settings .digital) ≡ t
-        → given (alarmAt (b .settings) p) (stateAt b p) (b .marks) (25 * p) (b .time) (scansAt (b .settings) p past) time (alarmAt (b .settings) p .kind)
+        → given (stateAt b p) (b .marks) (25 * p) (b .time) (scansAt (b .settings) p past) time (alarmAt (b .settings) p) (alarmAt (b .settings) p .kind)
         ≡ alarmReport (alarmAt (b .settings) p) (scansAt (b .settings) p past)
     go true e =
         let l = ltb-true p (b .settings .digital) e in
         let x = alarmAt (b .settings) p in
         let k = digital-kind (x .kind) (x .flags) (x .duration) (v .sound .digital-sound p l) in
-        digital-report-said x (stateAt b p) (b .marks) (25 * p) (b .time) (scansAt (b .settings) p past) time (k .0) (k .1) (v .digital p l)
+        digital-report-said (stateAt b p) (b .marks) (25 * p) (b .time) (scansAt (b .settings) p past) time x (k .0) (k .1) (v .digital p l)
     go false e =
         let l = ltb-false p (b .settings .digital) e in
         let x = alarmAt (b .settings) p in
         let k = analog-kind (x .kind) (x .flags) (x .duration) (v .sound .analog-sound p l h) in
-        analog-report-said x (stateAt b p) (b .marks) (25 * p) (b .time) (scansAt (b .settings) p past) time (k .0) (k .1) (k .2) (k .3) (v .analog p l h)
+        analog-report-said (stateAt b p) (b .marks) (25 * p) (b .time) (scansAt (b .settings) p past) time x (k .0) (k .1) (k .2) (k .3) (v .analog p l h)

@@ -24,7 +24,7 @@ use Rattle.image.specs.declared.write.Written.the-variants.{Length, Refused}
 use Rattle.image.proofs.RoundTrip as RoundTrip
 use Rattle.scan_record.specs.Check.{checkRecord}
 use Rattle.settings.specs.declared.reply.Reply.the-variants.{Accepted}
-use Rattle.alarm_history.specs.Facts.{facts}
+use Rattle.alarm_history.specs.Facts.{rulesOf, facts}
 use Rattle.bank.specs.Internal.Bank.{Bank, freshBank, loadOf}
 use Rattle.bank.specs.Internal.Scan.{alarmsOf, scanOf, eventBuffer}
 use Rattle.bank.specs.Lent.{Words}
@@ -173,17 +173,17 @@ module _ (image : List ℕ) (calls : List Call) (good : Good image) where
     there : reportIn w n ≡ alarmReport a scans
     there = lent-report n ∙ ap (λ (t : Bool). cond t (alarmReport a scans) noReport) (ap₂ (λ (x y : Bool). x && y) (le-leb 1 n low) (le-leb n (s .digital + s .analog) high))
 
-    reported : getD (reportIn w n .conditions) i noStatus ≡ statusOf a scans (getD (conditionsOf (a .kind)) i In)
+    reported : getD (reportIn w n .conditions) i noStatus ≡ statusOf (rulesOf a) scans (getD (conditionsOf (a .kind)) i In)
     reported =
         ap (λ (r : AlarmReport). getD (r .conditions) i noStatus) there
-        ∙ status-at (a .kind) (statusOf a scans) i h
+        ∙ status-at (a .kind) (statusOf (rulesOf a) scans) i h
 
-    demanded : Demand3 (facts a) (getD (reportIn w n .conditions) i noStatus .alarm) (not (getD (reportIn w n .conditions) i noStatus .acked))
+    demanded : Demand3 (facts (rulesOf a)) (getD (reportIn w n .conditions) i noStatus .alarm) (not (getD (reportIn w n .conditions) i noStatus .acked))
         (getD (reportIn w n .conditions) i noStatus .count) scans (getD (conditionsOf (a .kind)) i In)
     demanded =
         let c = getD (conditionsOf (a .kind)) i In in
-        subst (λ (x : Status). Demand3 (facts a) (x .alarm) (not (x .acked)) (x .count) scans c) (sym reported)
-        (subst (λ (u : Bool). Demand3 (facts a) (inAlarm (facts a) scans c) u (count (facts a) scans c) scans c) (sym (not-not (unacknowledged (facts a) scans c))) (demand (facts a) scans c))
+        subst (λ (x : Status). Demand3 (facts (rulesOf a)) (x .alarm) (not (x .acked)) (x .count) scans c) (sym reported)
+        (subst (λ (u : Bool). Demand3 (facts (rulesOf a)) (inAlarm (facts (rulesOf a)) scans c) u (count (facts (rulesOf a)) scans c) scans c) (sym (not-not (unacknowledged (facts (rulesOf a)) scans c))) (demand (facts (rulesOf a)) scans c))
 
 -- every reply and every byte is what settings and accepted records say
 pub every-reply : EveryReply

@@ -8,12 +8,13 @@ use Rattle.wire.specs.Bits.{bit}
 use Rattle.wire.proofs.WordLaws.{bit-word}
 use Rattle.condition.specs.Command.{countResets}
 use Rattle.condition.specs.Internal.Mark.{Turn, marksAfter, timeStampAfter}
+use Rattle.settings.specs.Numbers.{Numbers, AnalogOf}
 use Rattle.settings.specs.declared.types.Alarm.{Alarm}
-use Rattle.step.specs.Internal.Held.{DigitalHeld, lookDigital, Six, HH, H, L, LL, ROCPos, ROCNeg, place, AnalogHeld, lookAnalog}
+use Rattle.step.specs.Internal.Held.{DigitalHeld, lookDigital, Six, HH, H, L, LL, ROCPos, ROCNeg, place, AnalogHeld, Patterns, lookAnalog}
 use Rattle.step.specs.Internal.Digital.{digitalRequired, digitalAfter, digitalEvents, digitalStep}
 use Rattle.step.specs.Internal.Analog.{analogRequired, analogAfter, analogEvents, analogStep}
 use Rattle.step.specs.Internal.State.{State, Stepped, startsOf}
-use Rattle.step.proofs.Laws.{look-digital, InRecord, look-analog}
+use Rattle.step.proofs.Laws.{look-digital}
 use Rattle.alarm_history.specs.Scans.{Scan}
 use Rattle.alarm_history.specs.Internal.After.{resetKept, digitalRun, analogRun, digitalTurn, digitalMarks, analogTurn, analogMarks}
 use Rattle.marks.specs.Internal.Marks.{marksAt, turnAt}
@@ -55,19 +56,23 @@ module _ (a : Alarm) (s : State) (x : Scan) where
             ∙ ap₂ (λ (d : DigitalHeld) (t : ℕ). timeStampAfter (countResets (x .word) (d .previous)) (x .time) t) (v .held) (v .stamped);
       }
 
--- ---- an analog alarm
+-- ---- an analog alarm, of any form of numbers
 
-pub record AnalogView (a : Alarm) (s : State) (words : List ℕ) (at : ℕ) (scans : List Scan) : Type 0 where
-  pub held : lookAnalog s ≡ analogRun a scans
-  pub marked : (c : Six) → marksAt words (at + 1 + 4 * place c) ≡ analogMarks a scans c
-  pub stamped : getD words at 0 ≡ resetKept (λ past. analogRun a past .previous) scans
+pub record AnalogView {X : Type 0} (n : Numbers X) (q : Patterns X) (a : AnalogOf X) (s : State) (words : List ℕ) (at : ℕ) (scans : List Scan) : Type 0 where
+  pub held : lookAnalog q s ≡ analogRun n a scans
+  pub marked : (c : Six) → marksAt words (at + 1 + 4 * place c) ≡ analogMarks n a scans c
+  pub stamped : getD words at 0 ≡ resetKept (λ past. analogRun n a past .previous) scans
 
-module _ (a : Alarm) (s : State) (x : Scan) where
+module _ {X : Type 0} (n : Numbers X) (q : Patterns X) (a : AnalogOf X) (s : State) (x : Scan) where
   abbrev analogStepped : Stepped
-  analogStepped = analogStep a s (x .reading) (x .word) (x .time)
+  analogStepped = analogStep n q a s (x .reading) (x .word) (x .time)
+
+  -- the state after the scan, readable
+  abbrev pub analogNext : AnalogHeld X
+  analogNext = analogAfter n a (x .reading) (x .word) (x .time) (lookAnalog q s)
 
   abbrev analog-bits : List Bool
-  analog-bits = analogEvents a (x .reading) (x .word) (x .time) (lookAnalog s)
+  analog-bits = analogEvents n a (x .reading) (x .word) (x .time) (lookAnalog q s)
 
   analog-bit : (k : ℕ) → bit (analogStepped .events) k ≡ getD analog-bits k false
   unfolding analogStep
@@ -77,7 +82,7 @@ module _ (a : Alarm) (s : State) (x : Scan) where
   abbrev pub turnBits : Six → Turn
   turnBits c = turnAt (analogRequired (a .flags)) (startsOf (analogStepped .state)) (analogStepped .events) (x .time) (place c)
 
-  analog-turn : (c : Six) → turnBits c ≡ analogTurn a x (lookAnalog s) c
+  analog-turn : (c : Six) → turnBits c ≡ analogTurn n a x (lookAnalog q s) c
   unfolding analogStep
   analog-turn HH = rw (analog-bit 4, analog-bit 6, analog-bit 7, analog-bit 8) refl
   analog-turn H = rw (analog-bit 4, analog-bit 9, analog-bit 10, analog-bit 11) refl
@@ -86,16 +91,17 @@ module _ (a : Alarm) (s : State) (x : Scan) where
   analog-turn ROCPos = rw (analog-bit 4, analog-bit 18, analog-bit 19, analog-bit 20) refl
   analog-turn ROCNeg = rw (analog-bit 4, analog-bit 21, analog-bit 22, analog-bit 23) refl
 
-  pub analog-view : InRecord (x .reading) → (words words′ : List ℕ) (at : ℕ) (past : List Scan) → AnalogView a s words at past
+  -- where what the step packs is read back
+  pub analog-view : lookAnalog q (analogStepped .state) ≡ analogNext → (words words′ : List ℕ) (at : ℕ) (past : List Scan) → AnalogView n q a s words at past
       → ((c : Six) → marksAt words′ (at + 1 + 4 * place c) ≡ marksAfter (turnBits c) (marksAt words (at + 1 + 4 * place c)))
       → getD words′ at 0 ≡ timeStampAfter (bit (analogStepped .events) 4) (x .time) (getD words at 0)
-      → AnalogView a (analogStepped .state) words′ at (x ∷ past)
-  unfolding analogRun analogMarks resetKept analogStep
+      → AnalogView n q a (analogStepped .state) words′ at (x ∷ past)
+  unfolding analogRun analogMarks resetKept
   analog-view f words words′ at past v m r =
       record {
-        held = look-analog a s (x .reading) (x .word) (x .time) f ∙ ap (analogAfter a (x .reading) (x .word) (x .time)) (v .held);
-        marked = λ c. m c ∙ ap₂ marksAfter (analog-turn c ∙ ap (λ (h : AnalogHeld). analogTurn a x h c) (v .held)) (v .marked c);
+        held = f ∙ ap (analogAfter n a (x .reading) (x .word) (x .time)) (v .held);
+        marked = λ c. m c ∙ ap₂ marksAfter (analog-turn c ∙ ap (λ (h : AnalogHeld X). analogTurn n a x h c) (v .held)) (v .marked c);
         stamped = r
             ∙ ap (λ (b : Bool). timeStampAfter b (x .time) (getD words at 0)) (analog-bit 4)
-            ∙ ap₂ (λ (h : AnalogHeld) (t : ℕ). timeStampAfter (countResets (x .word) (h .previous)) (x .time) t) (v .held) (v .stamped);
+            ∙ ap₂ (λ (h : AnalogHeld X) (t : ℕ). timeStampAfter (countResets (x .word) (h .previous)) (x .time) t) (v .held) (v .stamped);
       }

@@ -15,7 +15,7 @@ use Rattle.reader.specs.Read.{readOf}
 use Rattle.image.specs.Internal.Write.{writeOf, writeBuffer}
 use Rattle.image.specs.declared.write.Written.the-variants.{Length, Refused}
 use Rattle.scan_record.specs.Check.{checkRecord}
-use Rattle.alarm_history.specs.Facts.{facts}
+use Rattle.alarm_history.specs.Facts.{rulesOf, facts}
 use Rattle.bank.specs.Lent.{Words}
 use Rattle.bank.specs.Internal.Words.{answerOf, bufferOf}
 use Rattle.bank.specs.Internal.Load.{loadedWords}
@@ -69,7 +69,7 @@ DemandThree =
     → i < length (conditionsOf (alarmAt (settings image) (n - 1) .kind))
     → let a = alarmAt (settings image) (n - 1) in
     let said = getD (reportIn (words image calls) n .conditions) i noStatus in
-    Demand3 (facts a) (said .alarm) (not (said .acked)) (said .count) (scansAt (settings image) (n - 1) (records image calls)) (getD (conditionsOf (a .kind)) i In)
+    Demand3 (facts (rulesOf a)) (said .alarm) (not (said .acked)) (said .count) (scansAt (settings image) (n - 1) (records image calls)) (getD (conditionsOf (a .kind)) i In)
 
 -- two receivers whose accepted records are the same report every alarm the same, whatever was refused and whatever buffers were lent
 abbrev pub TwoReceivers : Type 0

@@ -2,17 +2,17 @@
 use mathlib.Core.Path.{_≡_, refl}
 use mathlib.Core.Bool.{Bool, true, false}
 use mathlib.Core.List.{List, [], _∷_}
+use mathlib.Core.Option as O
+use mathlib.Core.Option.{Option, some}
 use Prim.Native.Nat.{ℕ}
 use lib.Ieee.{Float, binary32, ofBits, ofInt, lt, le, neg, add, sub, mul, div}
 use Rattle.wire.specs.Real.{zeroReal}
 use Rattle.settings.specs.Condition.{H, L}
-use Rattle.settings.specs.declared.types.Alarm.{Alarm}
+use Rattle.settings.specs.Numbers.{AnalogOf, reals, newRate}
 use Rattle.settings.specs.declared.types.Limits.{Limits}
-use Rattle.settings.specs.declared.types.Reading.{Reading}
-use Rattle.settings.specs.declared.types.Reading.the-variants.{Digital, Level}
 use Rattle.level.specs.Level.{met, frees}
 use Rattle.level.specs.Internal.Bits.{analogOf, metBits}
-use Rattle.level.specs.Rate.{Sample, newRate, sampleAfter}
+use Rattle.level.specs.Internal.Sample.{Sample, sampleAfter}
 
 abbrev real : ℕ → Float
 real pattern = ofBits binary32 pattern
@@ -31,58 +31,58 @@ limits =
     }
 
 -- H and L enabled, or no level; with a ROCPeriod
-abbrev both : Alarm
+abbrev both : AnalogOf Float
 both = analogOf 6 0 limits 0
 
-abbrev none : ℕ → Alarm
+abbrev none : ℕ → AnalogOf Float
 none period = analogOf 0 0 limits period
 
-abbrev level : ℕ → Reading
-level pattern = Level (real pattern)
+abbrev level : ℕ → Option Float
+level pattern = some (real pattern)
 
 -- 800 meets H, 780 neither meets nor clears it, 779.5 clears it
-high : (met both H (level 0x44480000) zeroReal ≡ true) × (met both H (level 0x44430000) zeroReal ≡ false)
-    × (frees both H (level 0x44430000) false ≡ false) × (frees both H (level 0x4442E000) false ≡ true)
+high : (met reals both H (level 0x44480000) zeroReal ≡ true) × (met reals both H (level 0x44430000) zeroReal ≡ false)
+    × (frees reals both H (level 0x44430000) ≡ false) × (frees reals both H (level 0x4442E000) ≡ true)
 unfolding met frees le ofBits sub
 high = (refl, refl, refl, refl)
 
 -- 600 meets L, 620 does not clear it, 620.5 does
-low : (met both L (level 0x44160000) zeroReal ≡ true) × (frees both L (level 0x441B0000) false ≡ false) × (frees both L (level 0x441B2000) false ≡ true)
+low : (met reals both L (level 0x44160000) zeroReal ≡ true) × (frees reals both L (level 0x441B0000) ≡ false) × (frees reals both L (level 0x441B2000) ≡ true)
 unfolding met frees le ofBits add
 low = (refl, refl, refl)
 
--- a level that is not enabled is not met, and a digital bit meets none
-disabled-level : metBits (none 0) (level 0x44480000) zeroReal ≡ false ∷ false ∷ false ∷ false ∷ false ∷ false ∷ []
+-- a level that is not enabled is not met, and what is no number meets none
+disabled-level : metBits reals (none 0) (level 0x44480000) zeroReal ≡ false ∷ false ∷ false ∷ false ∷ false ∷ false ∷ []
 unfolding metBits met lt ofBits
 disabled-level = refl
 
-not-a-level : metBits both (Digital true) zeroReal ≡ false ∷ false ∷ false ∷ false ∷ false ∷ false ∷ []
+not-a-level : metBits reals both O.none zeroReal ≡ false ∷ false ∷ false ∷ false ∷ false ∷ false ∷ []
 unfolding metBits met lt ofBits
 not-a-level = refl
 
 -- the sample 800 at time 0
-abbrev first : Sample
+abbrev first : Sample Float
 first = record { value = real 0x44480000; rate = zeroReal; at = 0 }
 
 -- the first enabled scan stores the reading, with rate 0
-stored : (s : Sample) → sampleAfter (record { period = 1000; enabled = true; held = false; time = 0; reading = level 0x44480000 }) s ≡ first
+stored : (s : Sample Float) → sampleAfter reals (record { period = 1000; enabled = true; held = false; time = 0; reading = level 0x44480000 }) s ≡ first
 unfolding sampleAfter
 stored s = refl
 
 -- 810 at 999 keeps the sample and its rate
-early : sampleAfter (record { period = 1000; enabled = true; held = true; time = 999; reading = level 0x444A8000 }) first ≡ first
+early : sampleAfter reals (record { period = 1000; enabled = true; held = true; time = 999; reading = level 0x444A8000 }) first ≡ first
 unfolding sampleAfter
 early = refl
 
 -- 805 at 1000 gives rate 5
-due : sampleAfter (record { period = 1000; enabled = true; held = true; time = 1000; reading = level 0x44494000 }) first
+due : sampleAfter reals (record { period = 1000; enabled = true; held = true; time = 1000; reading = level 0x44494000 }) first
     ≡ record { value = real 0x44494000; rate = real 0x40A00000; at = 1000 }
 unfolding sampleAfter newRate ofBits ofInt sub mul div
 due = refl
 
 -- rate 5 meets ROCPos and rate -5 meets ROCNeg, and with period 0 neither does
 abbrev rates : ℕ → Float → List Bool
-rates period rate = metBits (none period) (Level zeroReal) rate
+rates period rate = metBits reals (none period) (some zeroReal) rate
 
 positive : rates 1000 (real 0x40A00000) ≡ false ∷ false ∷ false ∷ false ∷ true ∷ false ∷ []
 unfolding metBits met lt le neg ofBits
@@ -97,7 +97,7 @@ unfolding metBits met lt ofBits
 no-rates = refl
 
 -- a disabled scan has rate 0, whatever came before
-disabled-scan : (period time : ℕ) (held : Bool) (x : Reading) (s : Sample)
-    → sampleAfter (record { period = period; enabled = false; held = held; time = time; reading = x }) s .rate ≡ zeroReal
+disabled-scan : (period time : ℕ) (held : Bool) (x : Option Float) (s : Sample Float)
+    → sampleAfter reals (record { period = period; enabled = false; held = held; time = time; reading = x }) s .rate ≡ zeroReal
 unfolding sampleAfter
 disabled-scan period time held x s = refl

@@ -1,3 +1,2 @@
 pub mod Level
-pub mod Rate
 pub mod Internal

@@ -1,14 +1,14 @@
 // The rate, and the REAL that a sample stores.
 ghost use mathlib.Core.Path.{_≡_};
 ghost use lib.Ieee.{binary32, ofBits, toBits};
-ghost use Rattle.level.specs.Rate.{periodReal, newRate, valueOf};
+ghost use Rattle.settings.specs.Numbers.{reals, realOf, valueOf, periodReal, newRate};
 use settings::types::Reading;
 use wire::real::from_pattern;
 use wire::real::to_pattern;
 
 // The REAL that a sample stores.
 pub fn value_of(reading: Reading) -> f32
-    ensures { λ r. ⌜ r ≡ valueOf reading ⌝ }
+    ensures { λ r. ⌜ r ≡ valueOf reals (realOf reading) ⌝ }
 {
     match reading {
         Reading::Digital(_) => 0.0,

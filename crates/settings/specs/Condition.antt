@@ -1,9 +1,9 @@
 -- The conditions of alarms.
-use Prim.Native.Nat.{ℕ}
+use Prim.Native.Nat.{ℕ, _-_}
 use mathlib.Core.Bool.{Bool, false, _||_}
 use mathlib.Core.List.{List, [], _∷_}
 use lib.Dec.{ltb}
-use Rattle.settings.specs.declared.types.Severities.{Severities}
+use lib.ListN.{getD}
 use Rattle.settings.specs.declared.types.Kind.{Kind}
 use Rattle.settings.specs.declared.types.Kind.the-variants.{Digital, Analog}
 
@@ -40,16 +40,7 @@ sideHas ROCNeg p = false
 abbrev pub isRate : Condition → Bool
 isRate c = ltb 4 (numberOf c)
 
--- the stored severity of a condition
-abbrev pub severityIn : Severities → Condition → ℕ
-severityIn s In = 0
-severityIn s HH = s .hh
-severityIn s H = s .h
-severityIn s L = s .l
-severityIn s LL = s .ll
-severityIn s ROCPos = s .rocpos
-severityIn s ROCNeg = s .rocneg
-
+-- the stored severity of a condition; those of an analog alarm stand in the order of its conditions
 abbrev pub severityOf : Kind → Condition → ℕ
 severityOf (Digital severity) c = severity
-severityOf (Analog limits severities period) c = severityIn severities c
+severityOf (Analog limits s period) c = getD (s .hh ∷ s .h ∷ s .l ∷ s .ll ∷ s .rocpos ∷ s .rocneg ∷ []) (numberOf c - 1) 0

@@ -1,5 +1,6 @@
 pub mod Refusals
 pub mod Alarm
 pub mod Condition
+pub mod Numbers
 pub mod Rules
 pub mod Internal

@@ -5,6 +5,7 @@ use mathlib.Core.List.{List, [], _∷_}
 use Prim.Native.Nat.{ℕ, _+_, _*_, _/_, _%_}
 use native.Mathlib.Omega.{arith}
 use lib.ListN.{getD, take, drop}
+use Rattle.settings.specs.Numbers.{Numbers, AnalogOf}
 use Rattle.settings.specs.declared.types.Alarm.{Alarm}
 use Rattle.settings.specs.declared.types.Reading.{Reading}
 use Rattle.level.specs.Internal.Bits.{metBits, freesBits}
@@ -14,7 +15,7 @@ use Rattle.wire.specs.Internal.Words.{wordOf, spread}
 use Rattle.wire.proofs.WordLaws.{word-halves, word-join}
 use Rattle.wire.proofs.MaskLaws.{bit-spread}
 use Rattle.condition.specs.Internal.Mode.{modeBits}
-use Rattle.step.specs.Internal.Held.{lookDigital, digitalFlags, High, Low, AnalogHeld, lookAnalog, analogFlags}
+use Rattle.step.specs.Internal.Held.{lookDigital, digitalFlags, High, Low, AnalogHeld, Patterns, lookAnalog, analogFlags}
 use Rattle.step.specs.Internal.Digital.{digitalTold, digitalAfter, digitalEvents}
 use Rattle.six.specs.Internal.Cells.{cell, six, cellsOf}
 use Rattle.step.specs.Internal.Packed.{readyBits}
@@ -52,13 +53,14 @@ flags-join : (d s f e h l : Bool) (cells : List Bool) → wordOf (d ∷ s ∷ f 
 unfolding wordOf
 flags-join d s f e h l cells = omega arith
 
-module _ (a : Alarm) (s : State) (x : Reading) (word time : ℕ) where
-  abbrev pub after : AnalogHeld
-  after = analogAfter a x word time (lookAnalog s)
+module _ {X : Type 0} (n : Numbers X) (p : Patterns X) (a : AnalogOf X) (s : State) (x : Reading) (word time : ℕ) where
+  abbrev pub after : AnalogHeld X
+  after = analogAfter n a x word time (lookAnalog p s)
 
   -- which would be due if they are met
   abbrev ready : List Bool
-  ready = readyBits (s .flags) (runStart a x word time (lookAnalog s) High) (runStart a x word time (lookAnalog s) Low) (a .duration) time
+  ready =
+      readyBits (s .flags) (runStart n a x word time (lookAnalog p s) High) (runStart n a x word time (lookAnalog p s) Low) (a .duration) time
 
   -- the outcomes of the six, from the lists of bits
   abbrev pub outcomes : ℕ → List Bool
@@ -66,29 +68,29 @@ module _ (a : Alarm) (s : State) (x : Reading) (word time : ℕ) where
       outcomeBits
       (record {
         enabled = not (after .disabled);
-        met = getD (metBits a x (after .sample .rate)) k false;
-        frees = getD (freesBits a x) k false;
+        met = getD (metBits n a (n .number x) (after .sample .rate)) k false;
+        frees = getD (freesBits n a (n .number x)) k false;
         ready = getD ready k false;
         ack = getD (ackBits word (s .previous)) k false;
         required = bit (a .flags) 4;
       })
       (bit (s .flags) (6 + 3 * k)) (bit (s .flags) (7 + 3 * k))
 
-  pub cells-are : cellsOf (s .flags) (not (after .disabled)) (wordOf (spread (metBits a x (after .sample .rate)))) (wordOf (spread (freesBits a x)))
+  pub cells-are : cellsOf (s .flags) (not (after .disabled)) (wordOf (spread (metBits n a (n .number x) (after .sample .rate)))) (wordOf (spread (freesBits n a (n .number x))))
       (wordOf (spread ready)) (wordOf (spread (ackBits word (s .previous)))) (bit (a .flags) 4)
       ≡ record { kept = wordOf (six (take 3) outcomes); events = wordOf (six (drop 3) outcomes) }
   unfolding cellsOf
   cells-are =
-      let e = fun-ext (cell-lists (s .flags) (not (after .disabled)) (bit (a .flags) 4) (metBits a x (after .sample .rate)) (freesBits a x) ready (ackBits word (s .previous))) in
+      let e = fun-ext (cell-lists (s .flags) (not (after .disabled)) (bit (a .flags) 4) (metBits n a (n .number x) (after .sample .rate)) (freesBits n a (n .number x)) ready (ackBits word (s .previous))) in
       ap (λ (o : ℕ → List Bool). record { kept = wordOf (six (take 3) o); events = wordOf (six (drop 3) o) }) e
 
   pub analog-flags : {m r : ℕ} → m ≡ wordOf (modeBits (bit (s .flags) 0) (bit (s .flags) 1) word (s .previous))
       → r ≡ wordOf (after .held ∷ after .run High .on ∷ after .run Low .on ∷ [])
       → m % 8 + 8 * r + 64 * wordOf (six (take 3) outcomes) ≡ wordOf (analogFlags after)
   unfolding modeBits readyBits metBits freesBits ackBits
-  analog-flags p q = rw (word-halves _ _ _ _ p .0, q) (flags-join _ _ _ _ _ _ (six (take 3) outcomes))
+  analog-flags e q = rw (word-halves _ _ _ _ e .0, q) (flags-join _ _ _ _ _ _ (six (take 3) outcomes))
 
   pub analog-events : {m : ℕ} → m ≡ wordOf (modeBits (bit (s .flags) 0) (bit (s .flags) 1) word (s .previous))
-      → m / 8 + 64 * wordOf (six (drop 3) outcomes) ≡ wordOf (analogEvents a x word time (lookAnalog s))
+      → m / 8 + 64 * wordOf (six (drop 3) outcomes) ≡ wordOf (analogEvents n a x word time (lookAnalog p s))
   unfolding modeBits readyBits metBits freesBits ackBits
-  analog-events p = word-join (_ ∷ _ ∷ _ ∷ _ ∷ _ ∷ _ ∷ []) (six (drop 3) outcomes) (word-halves _ _ _ _ p .1) refl
+  analog-events e = word-join (_ ∷ _ ∷ _ ∷ _ ∷ _ ∷ _ ∷ []) (six (drop 3) outcomes) (word-halves _ _ _ _ e .1) refl

@@ -12,13 +12,14 @@ use lib.ListN.{length, getD}
 use lib.Seq.{sets}
 use Rattle.wire.specs.Internal.Words.{wordOf}
 use Rattle.wire.proofs.WordLaws.{word-lt}
+use Rattle.settings.specs.Numbers.{AnalogOf, reals}
 use Rattle.settings.specs.declared.types.Alarm.{Alarm}
 use Rattle.settings.specs.declared.types.Reading.{Reading}
 use Rattle.layout.specs.Internal.Words.{lowerOf, upperOf, pairOf}
 use Rattle.layout.proofs.Laws.{getD-above, getD-below, getD-stored}
-use Rattle.level.specs.Rate.{sampleAfter}
+use Rattle.level.specs.Internal.Sample.{sampleAfter}
 use Rattle.step.specs.Internal.State.{State, startsOf, stateIn, stateWords}
-use Rattle.step.specs.Internal.Held.{lookDigital, digitalFlags, lookAnalog, analogFlags}
+use Rattle.step.specs.Internal.Held.{lookDigital, digitalFlags, realPatterns, lookAnalog, analogFlags}
 use Rattle.step.specs.Internal.Digital.{digitalAfter, digitalStep}
 use Rattle.step.specs.Internal.Analog.{analogAfter, analogSample, sampleStays, analogStep}
 use Rattle.step.proofs.Laws.{InRecord, sample-fits}
@@ -107,15 +108,18 @@ flags-small bs h =
     let k : 2 ^ 24 ≤ 4294967296 = omega arith in
     omega (arith, word-lt bs, m, k)
 
-module _ (a : Alarm) (s : State) (x : Reading) (word time : ℕ) (m : Small s) where
-  pub small-digital : Small (digitalStep a s x word time .state)
+module _ (s : State) (x : Reading) (word time : ℕ) (m : Small s) where
+  pub small-digital : (a : Alarm) → Small (digitalStep a s x word time .state)
   unfolding digitalStep
-  small-digital = record { flags = flags-small (digitalFlags (digitalAfter a x word time (lookDigital s))) (omega arith); sample = m .sample }
+  small-digital a = record { flags = flags-small (digitalFlags (digitalAfter a x word time (lookDigital s))) (omega arith); sample = m .sample }
 
-  pub small-analog : InRecord x → Small (analogStep a s x word time .state)
+  pub small-analog : (a : AnalogOf Float) → InRecord x → Small (analogStep reals realPatterns a s x word time .state)
   unfolding analogStep
-  small-analog h =
+  small-analog a h =
+      let held = lookAnalog realPatterns s in
       record {
-        flags = flags-small (analogFlags (analogAfter a x word time (lookAnalog s))) (omega arith);
-        sample = pattern-small (sampleStays a x word time (lookAnalog s)) (s .sample) (analogSample a x word time (lookAnalog s) .value) (m .sample) (sample-fits a s x word time h);
+        flags = flags-small (analogFlags (analogAfter reals a x word time held)) (omega arith);
+        sample =
+            pattern-small (sampleStays reals a x word time held) (s .sample) (analogSample reals a x word time held .value) (m .sample)
+            (sample-fits a s x word time h);
       }

@@ -18,13 +18,13 @@ use Rattle.settings.specs.Condition.{Condition, In}
 use Rattle.settings.specs.declared.types.Alarm.{Alarm}
 use Rattle.settings.specs.declared.types.Reading.{Reading}
 use Rattle.settings.specs.declared.types.Reading.the-variants.{Digital, Level}
-use Rattle.settings.specs.Alarm.{periodOf}
+use Rattle.settings.specs.Numbers.{Numbers, AnalogOf, valueOf, thousand, periodReal, newRate, realOf, reals}
 use Rattle.settings.specs.declared.types.Kind.{Kind}
 use Rattle.history.specs.Internal.Condition.{Told, acknowledges, returns, activates}
-use Rattle.level.specs.Rate.{sampleAfter, valueOf, thousand, periodReal, newRate}
+use Rattle.level.specs.Internal.Sample.{sampleAfter}
 use Rattle.condition.specs.Command.{enables, disables, countResets, resets, acksAll, acks, faults}
 use Rattle.condition.specs.Internal.Mode.{disabledAfter, suppressedAfter, wholeEvents}
-use Rattle.step.specs.Internal.Held.{DigitalHeld, lookDigital, digitalFlags, hideDigital, Six, HH, H, L, LL, ROCPos, ROCNeg, Side, High, Low, ofSix, AnalogHeld, realOf, runOf, cellOf, lookAnalog, analogFlags, hideAnalog}
+use Rattle.step.specs.Internal.Held.{DigitalHeld, lookDigital, digitalFlags, hideDigital, Six, HH, H, L, LL, ROCPos, ROCNeg, Side, High, Low, ofSix, AnalogHeld, Patterns, realPatterns, runOf, cellOf, lookAnalog, analogFlags, hideAnalog}
 use Rattle.step.specs.Internal.Digital.{digitalTold, digitalAfter, digitalEvents}
 use Rattle.step.specs.Internal.Analog.{analogTold, cellAfter, analogEnabled, analogSample, analogAfter, cellEvents, analogEvents, sampleStays, samplePattern, ratePattern, analogStep}
 use Rattle.step.specs.Internal.Events.{eventsFrom}
@@ -43,11 +43,11 @@ look-digital s d =
       bit-word (digitalFlags d) 8,
     )
 
-run-back : (a : AnalogHeld) (p q : ℕ) (s : Side) → runOf (hideAnalog a p q) s ≡ a .run s
+run-back : {X : Type 0} (a : AnalogHeld X) (p q : ℕ) (s : Side) → runOf (hideAnalog a p q) s ≡ a .run s
 run-back a p q High = rw (bit-word (analogFlags a) 4)
 run-back a p q Low = rw (bit-word (analogFlags a) 5)
 
-cell-back : (a : AnalogHeld) (p q : ℕ) (c : Six) → cellOf (hideAnalog a p q) c ≡ a .cell c
+cell-back : {X : Type 0} (a : AnalogHeld X) (p q : ℕ) (c : Six) → cellOf (hideAnalog a p q) c ≡ a .cell c
 cell-back a p q HH = rw (bit-word (analogFlags a) 6, bit-word (analogFlags a) 7, bit-word (analogFlags a) 8)
 cell-back a p q H = rw (bit-word (analogFlags a) 9, bit-word (analogFlags a) 10, bit-word (analogFlags a) 11)
 cell-back a p q L = rw (bit-word (analogFlags a) 12, bit-word (analogFlags a) 13, bit-word (analogFlags a) 14)
@@ -55,8 +55,9 @@ cell-back a p q LL = rw (bit-word (analogFlags a) 15, bit-word (analogFlags a) 1
 cell-back a p q ROCPos = rw (bit-word (analogFlags a) 18, bit-word (analogFlags a) 19, bit-word (analogFlags a) 20)
 cell-back a p q ROCNeg = rw (bit-word (analogFlags a) 21, bit-word (analogFlags a) 22, bit-word (analogFlags a) 23)
 
-look-packed : (a : AnalogHeld) (p q : ℕ) → realOf p ≡ a .sample .value → realOf q ≡ a .sample .rate → lookAnalog (hideAnalog a p q) ≡ a
-look-packed a p q value rate =
+look-packed : {X : Type 0} (v : Patterns X) (a : AnalogHeld X) (p q : ℕ) → v .value p ≡ a .sample .value → v .value q ≡ a .sample .rate
+    → lookAnalog v (hideAnalog a p q) ≡ a
+look-packed v a p q value rate =
     rw (
       bit-word (analogFlags a) 0,
       bit-word (analogFlags a) 1,
@@ -73,7 +74,7 @@ abbrev pub InRecord : Reading → Type 0
 InRecord (Digital input) = Unit {0}
 InRecord (Level x) = T (fits binary32 x)
 
-value-fits : (x : Reading) → InRecord x → T (fits binary32 (valueOf x))
+value-fits : (x : Reading) → InRecord x → T (fits binary32 (valueOf reals (realOf x)))
 value-fits (Digital input) h = ofBits-fits binary32 0
 value-fits (Level x) h = h
 
@@ -85,31 +86,36 @@ rate-fits period stored x =
 
 -- a pattern that stays, or that of a REAL, stands for it
 value-back : (stays : Bool) (p : ℕ) (x : Float) → T (fits binary32 x)
-    → realOf (cond stays p (toBits binary32 (cond stays (realOf p) x))) ≡ cond stays (realOf p) x
+    → ofBits binary32 (cond stays p (toBits binary32 (cond stays (ofBits binary32 p) x))) ≡ cond stays (ofBits binary32 p) x
 value-back true p x h = refl
 value-back false p x h = ofBits-toBits binary32 x h
 
 pub rate-back : (enabled held due : Bool) (p : ℕ) (x : Float) → T (fits binary32 x)
-    → realOf (cond (enabled && (held && not due)) p (toBits binary32 (cond (enabled && held) (cond due x (realOf p)) zeroReal)))
-    ≡ cond (enabled && held) (cond due x (realOf p)) zeroReal
+    → ofBits binary32 (cond (enabled && (held && not due)) p (toBits binary32 (cond (enabled && held) (cond due x (ofBits binary32 p)) zeroReal)))
+    ≡ cond (enabled && held) (cond due x (ofBits binary32 p)) zeroReal
 rate-back true true true p x h = ofBits-toBits binary32 x h
 rate-back true true false p x h = refl
 rate-back true false due p x h = ofBits-toBits binary32 zeroReal (ofBits-fits binary32 0)
 rate-back false held due p x h = ofBits-toBits binary32 zeroReal (ofBits-fits binary32 0)
 
 -- the sample's value after a scan
-pub sample-fits : (a : Alarm) (s : State) (x : Reading) (word time : ℕ) → InRecord x → T (fits binary32 (analogSample a x word time (lookAnalog s) .value))
+pub sample-fits : (a : AnalogOf Float) (s : State) (x : Reading) (word time : ℕ) → InRecord x
+    → T (fits binary32 (analogSample reals a x word time (lookAnalog realPatterns s) .value))
 unfolding sampleAfter
-sample-fits a s x word time h = cond-fits binary32 (sampleStays a x word time (lookAnalog s)) (realOf (s .sample)) (valueOf x) (ofBits-fits binary32 (s .sample)) (value-fits x h)
+sample-fits a s x word time h =
+    cond-fits binary32 (sampleStays reals a x word time (lookAnalog realPatterns s)) (ofBits binary32 (s .sample)) (valueOf reals (realOf x))
+    (ofBits-fits binary32 (s .sample)) (value-fits x h)
 
-pub look-analog : (a : Alarm) (s : State) (x : Reading) (word time : ℕ) → InRecord x
-    → lookAnalog (analogStep a s x word time .state) ≡ analogAfter a x word time (lookAnalog s)
+pub look-analog : (a : AnalogOf Float) (s : State) (x : Reading) (word time : ℕ) → InRecord x
+    → lookAnalog realPatterns (analogStep reals realPatterns a s x word time .state) ≡ analogAfter reals a x word time (lookAnalog realPatterns s)
 unfolding analogStep sampleAfter
 look-analog a s x word time h =
-    look-packed (analogAfter a x word time (lookAnalog s)) (samplePattern a s x word time) (ratePattern a s x word time)
-    (value-back (sampleStays a x word time (lookAnalog s)) (s .sample) (valueOf x) (value-fits x h))
-    (rate-back (analogEnabled a x word time (lookAnalog s)) (bit (s .flags) 3) (leb (periodOf (a .kind)) (time - s .sampled)) (s .rate)
-    (newRate (periodOf (a .kind)) (realOf (s .sample)) (valueOf x)) (rate-fits (periodOf (a .kind)) (realOf (s .sample)) (valueOf x)))
+    let held = lookAnalog realPatterns s in
+    let y : Float = valueOf reals (realOf x) in
+    look-packed realPatterns (analogAfter reals a x word time held) (samplePattern reals realPatterns a s x word time) (ratePattern reals realPatterns a s x word time)
+    (value-back (sampleStays reals a x word time held) (s .sample) y (value-fits x h))
+    (rate-back (analogEnabled reals a x word time held) (bit (s .flags) 3) (leb (a .period) (time - s .sampled)) (s .rate)
+    (newRate (a .period) (ofBits binary32 (s .sample)) y) (rate-fits (a .period) (ofBits binary32 (s .sample)) y))
 
 -- ---- how many events a scan has
 
@@ -171,12 +177,12 @@ module _ (a : Alarm) (x : Reading) (word time : ℕ) (d : DigitalHeld) where
       × (digitalAfter a x word time d .cell .row ≡ false)
   no-events-digital h = rw h (refl, refl, refl, refl)
 
-module _ (a : Alarm) (x : Reading) (word time : ℕ) (h : AnalogHeld) where
+module _ {X : Type 0} (n : Numbers X) (a : AnalogOf X) (x : Reading) (word time : ℕ) (h : AnalogHeld X) where
   abbrev cell-bits : Six → List Bool → List Bool
-  cell-bits = cellEvents a x word time h
+  cell-bits = cellEvents n a x word time h
 
   cell-most : (c : Six) (rest : List Bool) → number (cell-bits c rest) ≤ 2 + number rest
-  cell-most c rest = condition-most (analogTold a x word time h c) (h .cell c .alarm) (h .cell c .unacked) rest
+  cell-most c rest = condition-most (analogTold n a x word time h c) (h .cell c .alarm) (h .cell c .unacked) rest
 
   six-most : number (cell-bits HH (cell-bits H (cell-bits L (cell-bits LL (cell-bits ROCPos (cell-bits ROCNeg [])))))) ≤ 12
   six-most =
@@ -191,22 +197,22 @@ module _ (a : Alarm) (x : Reading) (word time : ℕ) (h : AnalogHeld) where
         no-bits,
       )
 
-  pub analog-most : number (analogEvents a x word time h) ≤ 15
+  pub analog-most : number (analogEvents n a x word time h) ≤ 15
   analog-most =
       let w = whole-most (h .disabled) (h .suppressed) word (h .previous) (cell-bits HH (cell-bits H (cell-bits L (cell-bits LL (cell-bits ROCPos (cell-bits ROCNeg [])))))) in
       omega (arith, w, six-most)
 
   pub no-events-analog : disabledAfter word (h .disabled) ≡ true → (c : Six) (rest : List Bool)
-      → (cellEvents a x word time h c rest ≡ false ∷ false ∷ false ∷ rest)
-      × (analogAfter a x word time h .cell c .alarm ≡ false)
-      × (analogAfter a x word time h .cell c .unacked ≡ false)
-      × (analogAfter a x word time h .cell c .row ≡ false)
+      → (cellEvents n a x word time h c rest ≡ false ∷ false ∷ false ∷ rest)
+      × (analogAfter n a x word time h .cell c .alarm ≡ false)
+      × (analogAfter n a x word time h .cell c .unacked ≡ false)
+      × (analogAfter n a x word time h .cell c .row ≡ false)
   no-events-analog e c rest = rw e (refl, refl, refl, refl)
 
   pub no-rows-analog : disabledAfter word (h .disabled) ≡ true
-      → (analogAfter a x word time h .held ≡ false)
-      × ((s : Side) → analogAfter a x word time h .run s .on ≡ false)
-      × (analogAfter a x word time h .sample .rate ≡ ofBits binary32 0)
+      → (analogAfter n a x word time h .held ≡ false)
+      × ((s : Side) → analogAfter n a x word time h .run s .on ≡ false)
+      × (analogAfter n a x word time h .sample .rate ≡ n .nought)
   unfolding sampleAfter
   no-rows-analog e = rw e (refl, λ s. refl, refl)
 
@@ -266,29 +272,30 @@ module _ (a : Alarm) (x : Reading) (word word′ time : ℕ) (d : DigitalHeld) (
       × (drop 4 (digitalEvents a x word′ time d) ≡ drop 4 (digitalEvents a x word time d))
   suppress-events-digital = rw (e .enabling, e .disabling, e .count-reset, e .reset, e .ack-all) (refl, refl)
 
-module _ (a : Alarm) (x : Reading) (word word′ time : ℕ) (h : AnalogHeld) (e : SameCommands (h .previous) word word′) where
-  run-same : (s : Side) → analogAfter a x word time h .run s ≡ analogAfter a x word′ time h .run s
+module _ {X : Type 0} (n : Numbers X) (a : AnalogOf X) (x : Reading) (word word′ time : ℕ) (h : AnalogHeld X)
+    (e : SameCommands (h .previous) word word′) where
+  run-same : (s : Side) → analogAfter n a x word time h .run s ≡ analogAfter n a x word′ time h .run s
   run-same High = rw (e .enabling, e .disabling)
   run-same Low = rw (e .enabling, e .disabling)
 
-  cell-same : (c : Six) → cellAfter a x word time h c ≡ cellAfter a x word′ time h c
+  cell-same : (c : Six) → cellAfter n a x word time h c ≡ cellAfter n a x word′ time h c
   cell-same c = rw (e .enabling, e .disabling, e .ack (ofSix c))
 
-  pub suppress-only-analog : analogAfter a x word′ time h
+  pub suppress-only-analog : analogAfter n a x word′ time h
       ≡ record {
-        disabled = analogAfter a x word time h .disabled;
+        disabled = analogAfter n a x word time h .disabled;
         suppressed = suppressedAfter word′ (h .suppressed);
-        faulted = analogAfter a x word time h .faulted;
-        held = analogAfter a x word time h .held;
+        faulted = analogAfter n a x word time h .faulted;
+        held = analogAfter n a x word time h .held;
         previous = word′;
-        sample = analogAfter a x word time h .sample;
-        run = analogAfter a x word time h .run;
-        cell = analogAfter a x word time h .cell;
+        sample = analogAfter n a x word time h .sample;
+        run = analogAfter n a x word time h .run;
+        cell = analogAfter n a x word time h .cell;
       }
   suppress-only-analog = rw (fun-ext run-same, fun-ext cell-same, e .enabling, e .disabling, e .fault)
 
-  pub suppress-events-analog : (take 2 (analogEvents a x word′ time h) ≡ take 2 (analogEvents a x word time h))
-      × (drop 4 (analogEvents a x word′ time h) ≡ drop 4 (analogEvents a x word time h))
+  pub suppress-events-analog : (take 2 (analogEvents n a x word′ time h) ≡ take 2 (analogEvents n a x word time h))
+      × (drop 4 (analogEvents n a x word′ time h) ≡ drop 4 (analogEvents n a x word time h))
   suppress-events-analog = rw (e .enabling, e .disabling, e .count-reset, fun-ext (e .ack)) (refl, refl)
 
 -- ---- events written

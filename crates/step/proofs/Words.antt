@@ -14,8 +14,7 @@ use Rattle.wire.specs.Real.{zeroReal}
 use Rattle.wire.proofs.Laws.{and-true}
 use Rattle.layout.specs.Internal.Words.{lowerOf, upperOf, pairOf}
 use Rattle.layout.proofs.Laws.{getD-above, getD-below}
-use Rattle.level.specs.Rate.{newRate}
-use Rattle.step.specs.Internal.Held.{realOf}
+use Rattle.settings.specs.Numbers.{newRate}
 use Rattle.step.specs.Internal.Packed.{staysIn, rateIn, sampleIn, sampledIn}
 use Rattle.step.proofs.Starts.{set-first}
 
@@ -102,7 +101,7 @@ rate-is true false due p new old = sym zero-pattern
 rate-is false held due p new old = sym zero-pattern
 
 pub value-is : (stays : Bool) (p : ℕ) (x : Float)
-    → cond stays p (toBits binary32 x) ≡ cond stays p (toBits binary32 (cond stays (realOf p) x))
+    → cond stays p (toBits binary32 x) ≡ cond stays p (toBits binary32 (cond stays (ofBits binary32 p) x))
 value-is true p x = refl
 value-is false p x = refl
 
@@ -125,6 +124,6 @@ module _ (ws : List ℕ) (at flags period time : ℕ) (enabled : Bool) (x : Floa
 
   -- otherwise the rate is a new one
   pub rate-changes : enabled && stays ≡ false
-      → cond (enabled && bit flags 3) (toBits binary32 (newRate period (realOf (lowerOf (getD ws at 0))) x)) 0 ≡ rate
+      → cond (enabled && bit flags 3) (toBits binary32 (newRate period (ofBits binary32 (lowerOf (getD ws at 0))) x)) 0 ≡ rate
   unfolding rateIn
   rate-changes h = rw (← e, h)

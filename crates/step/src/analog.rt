@@ -6,8 +6,10 @@ ghost use lib.Seq.{sets};
 ghost use Rattle.settings.specs.declared.types.Form.{Form};
 ghost use Rattle.wire.specs.Internal.Words.{wordOf, spread};
 ghost use Rattle.layout.specs.Internal.Words.{alarmIn};
+ghost use Rattle.settings.specs.Numbers.{reals, realOf, realAnalog};
 ghost use Rattle.level.specs.Internal.Bits.{analogOf, freesBits};
 ghost use Rattle.step.specs.Internal.State.{stateIn, stateWords};
+ghost use Rattle.step.specs.Internal.Held.{realPatterns};
 ghost use Rattle.step.specs.Internal.Packed.{SameFrees};
 ghost use Rattle.step.specs.Internal.Analog.{analogStep};
 use crate::finish::finish;
@@ -30,7 +32,7 @@ use wire::real::from_pattern;
 
 // The conditions that the reading frees, or none where no condition is in alarm and not met: only such a one asks.
 fn frees_in(flags: u32, met: u32, limits: Limits, reading: Reading) -> u32
-    ensures { λ r. ⌜ SameFrees flags met r (wordOf (spread (freesBits (analogOf 0 0 limits 0) reading))) ⌝ }
+    ensures { λ r. ⌜ SameFrees flags met r (wordOf (spread (freesBits reals (analogOf 0 0 limits 0) (realOf reading)))) ⌝ }
 {
     if only_in((flags / 64) & SIX, met) == 0 {
         return 0;
@@ -49,8 +51,8 @@ pub fn analog_step(
     time: u64,
 ) -> u32
     requires { ⌜ (from + 8 ≤ length (now settings)) × (at + 11 ≤ length (now states)) ⌝ }
-    ensures { λ r. ⌜ r ≡ analogStep (alarmIn Form.Analog (now (settings .entry)) from) (stateIn (now (states .entry)) at) reading word time .events ⌝ }
-    ensures { λ _. ⌜ now (states .exit) ≡ sets (now (states .entry)) at (stateWords (analogStep (alarmIn Form.Analog (now (settings .entry)) from) (stateIn (now (states .entry)) at) reading word time .state)) ⌝ }
+    ensures { λ r. ⌜ r ≡ analogStep reals realPatterns (realAnalog (alarmIn Form.Analog (now (settings .entry)) from)) (stateIn (now (states .entry)) at) reading word time .events ⌝ }
+    ensures { λ _. ⌜ now (states .exit) ≡ sets (now (states .entry)) at (stateWords (analogStep reals realPatterns (realAnalog (alarmIn Form.Analog (now (settings .entry)) from)) (stateIn (now (states .entry)) at) reading word time .state)) ⌝ }
 {
     let first = states[at];
     let flags = lower(first);

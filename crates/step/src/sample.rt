@@ -8,7 +8,7 @@ ghost use lib.Seq.{sets};
 ghost use lib.Ieee.{binary32, ofBits, toBits};
 ghost use Rattle.wire.specs.Bits.{bit};
 ghost use Rattle.layout.specs.Internal.Words.{lowerOf};
-ghost use Rattle.level.specs.Rate.{newRate};
+ghost use Rattle.settings.specs.Numbers.{newRate};
 ghost use Rattle.step.specs.Internal.Packed.{staysIn, rateIn, sampleIn, sampledIn};
 use condition::row::choose;
 use condition::row::elapsed;

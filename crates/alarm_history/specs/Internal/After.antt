@@ -4,6 +4,7 @@ use mathlib.Core.List.{List, [], _∷_}
 use mathlib.Core.Bool.{Bool, false, not, _&&_, cond}
 use Rattle.settings.specs.Condition as Condition
 use Rattle.settings.specs.Condition.{Condition, In}
+use Rattle.settings.specs.Numbers.{Numbers, AnalogOf}
 use Rattle.settings.specs.declared.types.Alarm.{Alarm}
 use Rattle.history.specs.Past.{Fact, holds}
 use Rattle.history.specs.Demand.{count, activation, answer, return}
@@ -11,12 +12,13 @@ use Rattle.history.specs.Internal.Row.{begun}
 use Rattle.history.specs.Internal.Condition.{Kept, kept, acknowledges, returns, activates}
 use Rattle.condition.specs.Command.{countResets}
 use Rattle.condition.specs.Internal.Mark.{Marks, Turn, marksAfter, noMarks, timeStampAfter}
-use Rattle.level.specs.Rate.{noSample}
-use Rattle.step.specs.Internal.Held.{Six, ofSix, Side, High, Low, DigitalHeld, AnalogHeld}
+use Rattle.level.specs.Internal.Sample.{noSample}
+use Rattle.step.specs.Internal.Held.{Cell, Six, ofSix, Side, High, Low, DigitalHeld, AnalogHeld}
 use Rattle.step.specs.Internal.Digital.{digitalRequired, digitalTold, digitalAfter}
 use Rattle.step.specs.Internal.Analog.{analogRequired, analogTold, cellAfter, analogAfter}
 use Rattle.alarm_history.specs.Scans.{Scan, previous, disabledIn, suppressedIn, faultedIn, enabled, countReset}
-use Rattle.alarm_history.specs.Facts.{sampleIn, metIn, freesIn, run, facts}
+use Rattle.alarm_history.specs.Sample.{sampledAt, sampleIn, rateIn}
+use Rattle.alarm_history.specs.Facts.{Rules, digitalRules, analogRules, run, facts}
 use Rattle.alarm_history.specs.Stamps.{ownStart, alarmStamp, ackStamp, returnStamp}
 
 -- a fresh alarm: enabled, not suppressed, not in alarm, acknowledged
@@ -24,15 +26,15 @@ abbrev pub freshDigital : DigitalHeld
 freshDigital =
     record { disabled = false; suppressed = false; faulted = false; previous = 0; cell = record { alarm = false; unacked = false; row = false; start = 0 } }
 
-abbrev pub freshAnalog : AnalogHeld
-freshAnalog =
+abbrev pub freshAnalog : {X : Type 0} → Numbers X → AnalogHeld X
+freshAnalog n =
     record {
       disabled = false;
       suppressed = false;
       faulted = false;
       held = false;
       previous = 0;
-      sample = noSample;
+      sample = noSample n;
       run = λ s. record { on = false; start = 0 };
       cell = λ c. record { alarm = false; unacked = false; row = false; start = 0 };
     }
@@ -59,29 +61,56 @@ changes wasDisabled wasSuppressed disabled suppressed reset =
 abbrev pub wholeBits : Scan → List Scan → List Bool
 wholeBits s past = changes (disabledIn past) (suppressedIn past) (disabledIn (s ∷ past)) (suppressedIn (s ∷ past)) (countReset s past)
 
--- kinds 6, 7, 8 of a condition
-abbrev pub conditionBits : Alarm → Scan → List Scan → Condition → List Bool → List Bool
-conditionBits a s past c rest = answer (facts a) c s past ∷ return (facts a) c s past ∷ activation (facts a) c s past ∷ rest
+-- ---- read off the scans, by the rules of the alarm
+
+module _ (r : Rules) where
+  -- kinds 6, 7, 8 of a condition
+  abbrev pub conditionBits : Scan → List Scan → Condition → List Bool → List Bool
+  conditionBits s past c rest = answer (facts r) c s past ∷ return (facts r) c s past ∷ activation (facts r) c s past ∷ rest
+
+  -- what each condition keeps
+  abbrev pub keptIn : List Scan → Condition → Kept
+  keptIn = kept (facts r) (r .frees)
+
+  -- enabled scans that met the condition itself
+  abbrev pub own : Condition → Fact Scan
+  own c s past = enabled s past && r .met c s past
+
+  -- what a condition keeps, with its own row
+  abbrev pub cellIn : List Scan → Condition → Cell
+  cellIn scans c =
+      record {
+        alarm = keptIn scans c .alarm;
+        unacked = keptIn scans c .unacked;
+        row = holds (own c) scans;
+        start = begun (λ x. x .time) (own c) scans;
+      }
+
+  -- what a scan did to a condition, and what is kept of it
+  abbrev pub turnIn : Condition → Scan → List Scan → Turn
+  turnIn c s past =
+      record {
+        reset = countReset s past;
+        acknowledged = answer (facts r) c s past;
+        returned = return (facts r) c s past;
+        activated = activation (facts r) c s past;
+        required = facts r .required;
+        start = ownStart r c s past;
+        time = s .time;
+      }
+
+  abbrev pub marksIn : Condition → List Scan → Marks
+  marksIn c scans =
+      record { count = count (facts r) scans c; alarm = alarmStamp r c scans; ack = ackStamp r c scans; return = returnStamp r c scans }
+
+-- ---- a digital alarm
 
 module _ (a : Alarm) where
   unfoldable pub digitalRun : List Scan → DigitalHeld
   digitalRun [] = freshDigital
   digitalRun (s ∷ past) = digitalAfter a (s .reading) (s .word) (s .time) (digitalRun past)
 
-  unfoldable pub analogRun : List Scan → AnalogHeld
-  analogRun [] = freshAnalog
-  analogRun (s ∷ past) = analogAfter a (s .reading) (s .word) (s .time) (analogRun past)
-
-  -- ---- read off the scans
-
-  -- what each condition keeps
-  abbrev pub keptIn : List Scan → Condition → Kept
-  keptIn = kept (facts a) (freesIn a)
-
-  -- enabled scans that met the condition itself
-  abbrev pub own : Condition → Fact Scan
-  own c s past = enabled s past && metIn a c s past
-
+  -- the same read off the scans
   abbrev pub digitalFrom : List Scan → DigitalHeld
   digitalFrom scans =
       record {
@@ -89,35 +118,10 @@ module _ (a : Alarm) where
         suppressed = suppressedIn scans;
         faulted = faultedIn scans;
         previous = previous scans;
-        cell = record {
-          alarm = keptIn scans In .alarm;
-          unacked = keptIn scans In .unacked;
-          row = holds (own In) scans;
-          start = begun (λ x. x .time) (own In) scans;
-        };
+        cell = cellIn (digitalRules a) scans In;
       }
 
-  abbrev pub analogFrom : List Scan → AnalogHeld
-  analogFrom scans =
-      record {
-        disabled = disabledIn scans;
-        suppressed = suppressedIn scans;
-        faulted = faultedIn scans;
-        held = holds enabled scans;
-        previous = previous scans;
-        sample = sampleIn a scans;
-        run = λ s. record { on = holds (run a (levelOf s)) scans; start = begun (λ x. x .time) (run a (levelOf s)) scans };
-        cell = λ c.
-            record {
-              alarm = keptIn scans (ofSix c) .alarm;
-              unacked = keptIn scans (ofSix c) .unacked;
-              row = holds (own (ofSix c)) scans;
-              start = begun (λ x. x .time) (own (ofSix c)) scans;
-            };
-      }
-
-  -- ---- counts and stamps, from what each scan did
-
+  -- counts and stamps, from what each scan did
   abbrev pub digitalTurn : Scan → DigitalHeld → Turn
   digitalTurn s d =
       let t = digitalTold a (s .reading) (s .word) (s .time) d in
@@ -135,36 +139,42 @@ module _ (a : Alarm) where
   digitalMarks [] = noMarks
   digitalMarks (s ∷ past) = marksAfter (digitalTurn s (digitalRun past)) (digitalMarks past)
 
-  abbrev pub analogTurn : Scan → AnalogHeld → Six → Turn
+-- ---- an analog alarm, of any form of numbers
+
+module _ {X : Type 0} (n : Numbers X) (a : AnalogOf X) where
+  unfoldable pub analogRun : List Scan → AnalogHeld X
+  analogRun [] = freshAnalog n
+  analogRun (s ∷ past) = analogAfter n a (s .reading) (s .word) (s .time) (analogRun past)
+
+  -- the same read off the scans; AckRequired as given
+  abbrev pub analogFrom : Bool → List Scan → AnalogHeld X
+  analogFrom required scans =
+      let r : Rules = analogRules n a required in
+      record {
+        disabled = disabledIn scans;
+        suppressed = suppressedIn scans;
+        faulted = faultedIn scans;
+        held = holds enabled scans;
+        previous = previous scans;
+        sample = record { value = sampleIn n a scans; rate = rateIn n a scans; at = sampledAt (a .period) scans };
+        run = λ s. record { on = holds (run r (levelOf s)) scans; start = begun (λ x. x .time) (run r (levelOf s)) scans };
+        cell = λ c. cellIn r scans (ofSix c);
+      }
+
+  -- counts and stamps, from what each scan did
+  abbrev pub analogTurn : Scan → AnalogHeld X → Six → Turn
   analogTurn s h c =
-      let t = analogTold a (s .reading) (s .word) (s .time) h c in
+      let t = analogTold n a (s .reading) (s .word) (s .time) h c in
       record {
         reset = countResets (s .word) (h .previous);
         acknowledged = acknowledges t (h .cell c .unacked);
         returned = returns t (h .cell c .alarm);
         activated = activates t (h .cell c .alarm);
         required = analogRequired (a .flags);
-        start = cellAfter a (s .reading) (s .word) (s .time) h c .start;
+        start = cellAfter n a (s .reading) (s .word) (s .time) h c .start;
         time = s .time;
       }
 
   unfoldable pub analogMarks : List Scan → Six → Marks
   analogMarks [] c = noMarks
   analogMarks (s ∷ past) c = marksAfter (analogTurn s (analogRun past) c) (analogMarks past c)
-
-  -- read off the scans: what a scan did to a condition, and what is kept of it
-  abbrev pub turnIn : Condition → Scan → List Scan → Turn
-  turnIn c s past =
-      record {
-        reset = countReset s past;
-        acknowledged = answer (facts a) c s past;
-        returned = return (facts a) c s past;
-        activated = activation (facts a) c s past;
-        required = facts a .required;
-        start = ownStart a c s past;
-        time = s .time;
-      }
-
-  abbrev pub marksIn : Condition → List Scan → Marks
-  marksIn c scans =
-      record { count = count (facts a) scans c; alarm = alarmStamp a c scans; ack = ackStamp a c scans; return = returnStamp a c scans }

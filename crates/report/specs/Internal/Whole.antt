@@ -1,13 +1,14 @@
 -- What a report says of a whole alarm.
 use Prim.Native.Nat.{ℕ}
 use mathlib.Core.Bool.{Bool, not, _||_}
+use lib.Ieee.{Float}
 use Rattle.condition.specs.Severity.{severityInvalid}
 use Rattle.settings.specs.declared.types.Severities.{Severities}
 use Rattle.settings.specs.declared.types.Kind.{Kind}
 use Rattle.settings.specs.declared.types.Kind.the-variants.{Digital, Analog}
 use Rattle.settings.specs.declared.types.Alarm.{Alarm}
 use Rattle.wire.specs.Real.{zeroReal}
-use Rattle.step.specs.Internal.Held.{High, Low, DigitalHeld, lookDigital, AnalogHeld, lookAnalog}
+use Rattle.step.specs.Internal.Held.{High, Low, DigitalHeld, lookDigital, AnalogHeld, realPatterns, lookAnalog}
 use Rattle.step.specs.Internal.State.{State}
 use Rattle.alarm_history.specs.Internal.After.{elapsed}
 use Rattle.report.specs.declared.whole.Whole.{Whole}
@@ -31,22 +32,26 @@ digitalWhole severity duration d time =
       low = 0;
     }
 
--- an analog alarm, with the elapsed run of each side
-abbrev pub analogWhole : Severities → ℕ → AnalogHeld → ℕ → Whole
-analogWhole severities duration a time =
+-- how a REAL rate is shown: as it is
+abbrev pub shownReal : Float → Float
+shownReal r = r
+
+-- an analog alarm of any form of numbers, whose rate is shown as said, with the elapsed run of each side
+abbrev pub analogWhole : {X : Type 0} → (X → Float) → Severities → ℕ → AnalogHeld X → ℕ → Whole
+analogWhole shown severities duration a time =
     record {
       enabled = not (a .disabled);
       suppressed = a .suppressed;
       infaulted = a .faulted;
       severityinv = anyInvalid severities;
-      rate = a .sample .rate;
+      rate = shown (a .sample .rate);
       high = elapsed duration (a .run High .on) (a .run High .start) time;
       low = elapsed duration (a .run Low .on) (a .run Low .start) time;
     }
 
 abbrev pub wholeKind : Kind → ℕ → State → ℕ → Whole
 wholeKind (Digital severity) duration s time = digitalWhole severity duration (lookDigital s) time
-wholeKind (Analog g severities period) duration s time = analogWhole severities duration (lookAnalog s) time
+wholeKind (Analog g severities period) duration s time = analogWhole shownReal severities duration (lookAnalog realPatterns s) time
 
 unfoldable pub wholeOf : Alarm → State → ℕ → Whole
 wholeOf a s time = wholeKind (a .kind) (a .duration) s time

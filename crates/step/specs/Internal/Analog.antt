@@ -1,21 +1,19 @@
--- One scan of an analog alarm, in document 01's order.
+-- One scan of an analog alarm of any form of numbers, in document 01's order.
 use Prim.Native.Nat.{ℕ, _-_}
 use mathlib.Core.Bool.{Bool, true, false, not, _&&_, _||_, cond}
 use mathlib.Core.List.{List, [], _∷_, _++_}
 use lib.Dec.{leb}
-use lib.Ieee.{binary32, toBits}
 use Rattle.wire.specs.Bits.{bit}
 use Rattle.wire.specs.Internal.Words.{wordOf}
-use Rattle.settings.specs.Alarm.{periodOf}
-use Rattle.settings.specs.declared.types.Alarm.{Alarm}
+use Rattle.settings.specs.Numbers.{Numbers, AnalogOf}
 use Rattle.settings.specs.declared.types.Reading.{Reading}
 use Rattle.history.specs.Internal.Row.{startKept}
 use Rattle.history.specs.Internal.Condition.{Told, alarmAfter, unackedAfter, acknowledges, returns, activates}
 use Rattle.level.specs.Level.{met, frees}
-use Rattle.level.specs.Rate.{Sample, sampleAfter}
+use Rattle.level.specs.Internal.Sample.{Sample, sampleAfter}
 use Rattle.condition.specs.Command.{acks, faults}
 use Rattle.condition.specs.Internal.Mode.{disabledAfter, suppressedAfter, wholeEvents}
-use Rattle.step.specs.Internal.Held.{Cell, Six, HH, H, L, LL, ROCPos, ROCNeg, Side, High, Low, ofSix, AnalogHeld, lookAnalog, hideAnalog}
+use Rattle.step.specs.Internal.Held.{Cell, Six, HH, H, L, LL, ROCPos, ROCNeg, Side, High, Low, ofSix, AnalogHeld, Patterns, lookAnalog, hideAnalog}
 use Rattle.step.specs.Internal.State.{State, Stepped}
 
 -- AckRequired of an analog alarm
@@ -27,15 +25,16 @@ abbrev pub sideAlarm : (Six → Bool) → Side → Bool
 sideAlarm before High = before HH || before H
 sideAlarm before Low = before L || before LL
 
-module _ (a : Alarm) (x : Reading) (word time : ℕ) (h : AnalogHeld) where
+module _ {X : Type 0} (n : Numbers X) (a : AnalogOf X) (x : Reading) (word time : ℕ) (h : AnalogHeld X) where
   abbrev pub analogEnabled : Bool
   analogEnabled = not (disabledAfter word (h .disabled))
 
-  abbrev pub analogSample : Sample
-  analogSample = sampleAfter (record { period = periodOf (a .kind); enabled = analogEnabled; held = h .held; time = time; reading = x }) (h .sample)
+  abbrev pub analogSample : Sample X
+  analogSample =
+      sampleAfter n (record { period = a .period; enabled = analogEnabled; held = h .held; time = time; reading = n .number x }) (h .sample)
 
   abbrev pub analogMet : Six → Bool
-  analogMet c = met a (ofSix c) x (analogSample .rate)
+  analogMet c = met n a (ofSix c) (n .number x) (analogSample .rate)
 
   abbrev pub sideMet : Side → Bool
   sideMet High = analogMet HH || analogMet H
@@ -62,7 +61,7 @@ module _ (a : Alarm) (x : Reading) (word time : ℕ) (h : AnalogHeld) where
       record {
         enabled = analogEnabled;
         met = analogMet c;
-        frees = frees a (ofSix c) x false;
+        frees = frees n a (ofSix c) (n .number x);
         ready = analogReady c;
         ack = acks word (h .previous) (ofSix c);
         required = analogRequired (a .flags);
@@ -77,7 +76,7 @@ module _ (a : Alarm) (x : Reading) (word time : ℕ) (h : AnalogHeld) where
         start = startKept (analogEnabled && analogMet c) (h .cell c .row) time (h .cell c .start);
       }
 
-  abbrev pub analogAfter : AnalogHeld
+  abbrev pub analogAfter : AnalogHeld X
   analogAfter =
       record {
         disabled = disabledAfter word (h .disabled);
@@ -103,21 +102,22 @@ module _ (a : Alarm) (x : Reading) (word time : ℕ) (h : AnalogHeld) where
 
   -- the stored sample stays
   abbrev pub sampleStays : Bool
-  sampleStays = h .held && not (leb (periodOf (a .kind)) (time - h .sample .at))
+  sampleStays = h .held && not (leb (a .period) (time - h .sample .at))
 
 -- on the packed state: what stays of sample and rate keeps its pattern
-module _ (a : Alarm) (s : State) (x : Reading) (word time : ℕ) where
+module _ {X : Type 0} (n : Numbers X) (p : Patterns X) (a : AnalogOf X) (s : State) (x : Reading) (word time : ℕ) where
   abbrev pub samplePattern : ℕ
-  samplePattern = cond (sampleStays a x word time (lookAnalog s)) (s .sample) (toBits binary32 (analogSample a x word time (lookAnalog s) .value))
+  samplePattern =
+      cond (sampleStays n a x word time (lookAnalog p s)) (s .sample) (p .pattern (analogSample n a x word time (lookAnalog p s) .value))
 
   abbrev pub ratePattern : ℕ
   ratePattern =
-      cond (analogEnabled a x word time (lookAnalog s) && sampleStays a x word time (lookAnalog s)) (s .rate)
-      (toBits binary32 (analogSample a x word time (lookAnalog s) .rate))
+      cond (analogEnabled n a x word time (lookAnalog p s) && sampleStays n a x word time (lookAnalog p s)) (s .rate)
+      (p .pattern (analogSample n a x word time (lookAnalog p s) .rate))
 
   unfoldable pub analogStep : Stepped
   analogStep =
       record {
-        state = hideAnalog (analogAfter a x word time (lookAnalog s)) samplePattern ratePattern;
-        events = wordOf (analogEvents a x word time (lookAnalog s));
+        state = hideAnalog (analogAfter n a x word time (lookAnalog p s)) samplePattern ratePattern;
+        events = wordOf (analogEvents n a x word time (lookAnalog p s));
       }

@@ -4,9 +4,7 @@ use mathlib.Core.Bool.{Bool, not, _&&_, cond}
 use mathlib.Core.List.{List, [], _∷_, _++_}
 use lib.Dec.{leb}
 use Rattle.wire.specs.Bits.{bit}
-use Rattle.wire.specs.Real.{zeroReal}
 use Rattle.wire.specs.Internal.Words.{wordOf}
-use Rattle.settings.specs.Condition.{In}
 use Rattle.settings.specs.declared.types.Alarm.{Alarm}
 use Rattle.settings.specs.declared.types.Kind.the-variants.{Digital}
 use Rattle.settings.specs.declared.types.Reading.{Reading}
@@ -14,7 +12,7 @@ use Rattle.history.specs.Internal.Row.{startKept}
 use Rattle.history.specs.Internal.Condition.{Told, alarmAfter, unackedAfter, acknowledges, returns, activates}
 use Rattle.condition.specs.Command.{resets, acksAll, faults}
 use Rattle.condition.specs.Internal.Mode.{disabledAfter, suppressedAfter, wholeEvents}
-use Rattle.level.specs.Level.{met, frees}
+use Rattle.level.specs.Level.{bitMet, bitFrees}
 use Rattle.step.specs.Internal.Held.{DigitalHeld, lookDigital, hideDigital}
 use Rattle.step.specs.Internal.State.{State, Stepped}
 
@@ -27,9 +25,8 @@ abbrev pub digitalRequired : ℕ → Bool
 digitalRequired flags = bit flags 1
 
 module _ (a : Alarm) (x : Reading) (word time : ℕ) (d : DigitalHeld) where
-  -- a digital alarm has no rate
   abbrev pub digitalMet : Bool
-  digitalMet = met a In x zeroReal
+  digitalMet = bitMet (a .flags) x
 
   -- the run is the row of scans that met the condition: when it began, if this scan goes on with it or begins it
   abbrev pub digitalStart : ℕ
@@ -40,7 +37,7 @@ module _ (a : Alarm) (x : Reading) (word time : ℕ) (d : DigitalHeld) where
       record {
         enabled = not (disabledAfter word (d .disabled));
         met = digitalMet;
-        frees = frees a In x (resets word (d .previous));
+        frees = bitFrees (a .flags) (resets word (d .previous));
         ready = leb (a .duration) (time - digitalStart);
         ack = acksAll word (d .previous);
         required = digitalRequired (a .flags);

@@ -1,12 +1,12 @@
 -- What an alarm keeps between scans, readable, and how it is packed.
-use Rattle.level.specs.Rate.{Sample}
 use Prim.Native.Nat.{ℕ}
 use mathlib.Core.Bool.{Bool, false}
 use mathlib.Core.List.{List, [], _∷_}
 use Rattle.wire.specs.Bits.{bit}
 use Rattle.wire.specs.Internal.Words.{wordOf}
-use lib.Ieee.{Float, binary32, ofBits}
+use lib.Ieee.{Float, binary32, ofBits, toBits}
 use Rattle.settings.specs.Condition as Condition
+use Rattle.level.specs.Internal.Sample.{Sample}
 use Rattle.step.specs.Internal.State.{State}
 
 -- a condition: in alarm, unacknowledged, the last scan was enabled and met it, and when the last row of such scans began
@@ -89,14 +89,15 @@ ofSix LL = Condition.LL
 ofSix ROCPos = Condition.ROCPos
 ofSix ROCNeg = Condition.ROCNeg
 
-pub record AnalogHeld : Type 0 where
+-- of any form of numbers
+pub record AnalogHeld (X : Type 0) : Type 0 where
   pub disabled : Bool
   pub suppressed : Bool
   pub faulted : Bool
   -- a rate sample is stored
   pub held : Bool
   pub previous : ℕ
-  pub sample : Sample
+  pub sample : Sample X
   pub run : Side → Run
   pub cell : Six → Cell
 
@@ -112,19 +113,23 @@ cellOf s LL = record { alarm = bit (s .flags) 15; unacked = bit (s .flags) 16; r
 cellOf s ROCPos = record { alarm = bit (s .flags) 18; unacked = bit (s .flags) 19; row = bit (s .flags) 20; start = s .rocpos }
 cellOf s ROCNeg = record { alarm = bit (s .flags) 21; unacked = bit (s .flags) 22; row = bit (s .flags) 23; start = s .rocneg }
 
--- the REAL of a stored pattern
-abbrev pub realOf : ℕ → Float
-realOf pattern = ofBits binary32 pattern
+-- how the numbers of a form stand in 32 bits
+pub record Patterns (X : Type 0) : Type 0 where
+  pub value : ℕ → X
+  pub pattern : X → ℕ
 
-abbrev pub lookAnalog : State → AnalogHeld
-lookAnalog s =
+abbrev pub realPatterns : Patterns Float
+realPatterns = record { value = ofBits binary32; pattern = toBits binary32 }
+
+abbrev pub lookAnalog : {X : Type 0} → Patterns X → State → AnalogHeld X
+lookAnalog p s =
     record {
       disabled = bit (s .flags) 0;
       suppressed = bit (s .flags) 1;
       faulted = bit (s .flags) 2;
       held = bit (s .flags) 3;
       previous = s .previous;
-      sample = record { value = realOf (s .sample); rate = realOf (s .rate); at = s .sampled };
+      sample = record { value = p .value (s .sample); rate = p .value (s .rate); at = s .sampled };
       run = runOf s;
       cell = cellOf s;
     }
@@ -132,13 +137,13 @@ lookAnalog s =
 abbrev pub cellFlags : Cell → List Bool → List Bool
 cellFlags c rest = c .alarm ∷ c .unacked ∷ c .row ∷ rest
 
-abbrev pub analogFlags : AnalogHeld → List Bool
+abbrev pub analogFlags : {X : Type 0} → AnalogHeld X → List Bool
 analogFlags a =
     a .disabled ∷ a .suppressed ∷ a .faulted ∷ a .held ∷ a .run High .on ∷ a .run Low .on
     ∷ cellFlags (a .cell HH) (cellFlags (a .cell H) (cellFlags (a .cell L) (cellFlags (a .cell LL) (cellFlags (a .cell ROCPos) (cellFlags (a .cell ROCNeg) [])))))
 
 -- the packed state with these flags and patterns of sample and rate
-abbrev pub packed : AnalogHeld → ℕ → ℕ → ℕ → State
+abbrev pub packed : {X : Type 0} → AnalogHeld X → ℕ → ℕ → ℕ → State
 packed a f sample rate =
     record {
       flags = f;
@@ -156,7 +161,7 @@ packed a f sample rate =
       rocneg = a .cell ROCNeg .start;
     }
 
-abbrev pub hideAnalog : AnalogHeld → ℕ → ℕ → State
+abbrev pub hideAnalog : {X : Type 0} → AnalogHeld X → ℕ → ℕ → State
 hideAnalog a sample rate = packed a (wordOf (analogFlags a)) sample rate
 
 -- before the first scan, for either kind

@@ -9,7 +9,7 @@ use lib.Ieee.{Float, binary32, ofBits, toBits}
 use Rattle.wire.specs.Bits.{bit}
 use Rattle.wire.specs.Internal.Words.{wordOf, spread}
 use Rattle.layout.specs.Internal.Words.{lowerOf, upperOf, pairOf}
-use Rattle.level.specs.Rate.{newRate}
+use Rattle.settings.specs.Numbers.{newRate}
 use Rattle.condition.specs.Internal.Outcome.{ackBits}
 use Rattle.six.specs.Internal.Cells.{cellsOf}
 use Rattle.six.specs.declared.decide.Cells.{Cells}

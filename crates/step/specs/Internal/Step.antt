@@ -4,13 +4,15 @@ use Rattle.settings.specs.declared.types.Alarm.{Alarm}
 use Rattle.settings.specs.declared.types.Kind.{Kind}
 use Rattle.settings.specs.declared.types.Kind.the-variants.{Digital, Analog}
 use Rattle.settings.specs.declared.types.Reading.{Reading}
+use Rattle.settings.specs.Numbers.{reals, realAnalog}
+use Rattle.step.specs.Internal.Held.{realPatterns}
 use Rattle.step.specs.Internal.Digital.{digitalStep}
 use Rattle.step.specs.Internal.Analog.{analogStep}
 use Rattle.step.specs.Internal.State.{State, Stepped}
 
 unfoldable pub stepKind : Kind → Alarm → State → Reading → ℕ → ℕ → Stepped
 stepKind (Digital severity) a s x word time = digitalStep a s x word time
-stepKind (Analog limits severities period) a s x word time = analogStep a s x word time
+stepKind (Analog limits severities period) a s x word time = analogStep reals realPatterns (realAnalog a) s x word time
 
 abbrev pub stepOf : Alarm → State → Reading → ℕ → ℕ → Stepped
 stepOf a s x word time = stepKind (a .kind) a s x word time

@@ -19,7 +19,7 @@ use Rattle.layout.specs.Internal.Words.{pairOf, alarmIn}
 use Rattle.condition.specs.Command.{resets, acksAll}
 use Rattle.condition.specs.Internal.Mode.{modeBits}
 use Rattle.condition.specs.Internal.Outcome.{outcomeBits}
-use Rattle.level.specs.Level.{isBit, met, frees}
+use Rattle.level.specs.Level.{isBit}
 use Rattle.step.specs.Internal.State.{State, stateIn}
 use Rattle.step.specs.Internal.Held.{lookDigital}
 use Rattle.step.specs.Internal.Digital.{digitalTold, digitalAfter, digitalStep}
@@ -29,7 +29,7 @@ use Rattle.step.proofs.digital.digital_step.Statement.{statement}
 use Rattle.step.proofs.digital.digital_step.Tie as tie
 
 returns : tie.Need-returns
-unfolding met alarmIn
+unfolding alarmIn
 returns c =
     let g = c .before .before .before .before .before .before .before .args in
     let a : Alarm = alarmIn DigitalForm (now (g .settings)) (g .from) in
@@ -39,7 +39,7 @@ returns c =
     digital-rest-done a (now (g .states)) (g .at) (g .reading) (g .word) (g .time) met′ (eqb-true _ _ (rests .0)) (eqb-true _ _ (sym (c .before .rests .ensures) ∙ rests .1))
 
 returns-2 : tie.Need-returns-2
-unfolding modeBits digitalStep met frees alarmIn stateIn
+unfolding modeBits digitalStep alarmIn stateIn
 returns-2 c =
     let g = c .before .before .before .before .before .before .before .before .before .before .before .before .before .before .before .before .before .before .before .before .before .before .args in
     let ws : List ℕ = now (g .states) in
