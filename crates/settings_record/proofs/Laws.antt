@@ -1,4 +1,4 @@
--- What is known of a record that was read: it is there whole, its flags are known, and which alarm it is. Assumes nothing.
+-- What is known of a record that was read: it is there whole, its flags are known, which alarm it is, and where it ends. Assumes nothing.
 use mathlib.Core.Path.{_≡_, refl}
 use mathlib.Core.List.{List}
 use mathlib.Core.Bool.{Bool, true, false, cond}
@@ -23,7 +23,8 @@ read-true true x r e = (refl, e)
 read-true false x r e = let z : _≡_ {A = ℕ} 0 1 = cc in absurd (omega arith)
 
 module _ (image : List ℕ) (at : ℕ) {a : Alarm} {next : ℕ} where
-  pub digital-read : recordAt DigitalForm image at ≡ Recorded a next → (at + 9 ≤ length image) × (getD image at 0 < 8) × (digitalAlarm image at ≡ a)
+  pub digital-read : recordAt DigitalForm image at ≡ Recorded a next
+      → (at + 9 ≤ length image) × (getD image at 0 < 8) × (digitalAlarm image at ≡ a) × (next ≡ at + 9)
   unfolding recordAt digitalRecord
   digital-read e =
       let read = Recorded (digitalAlarm image at) (at + 9) in
@@ -32,9 +33,11 @@ module _ (image : List ℕ) (at : ℕ) {a : Alarm} {next : ℕ} where
       let f = read-true (ltb (getD image at 0) 8) second (refusal 3 at) (w .1) in
       let d = read-true (durationInRange (number image (at + 5) 4)) read (refusal 4 at) (f .1) in
       let a≡ : digitalAlarm image at ≡ a = cc in
-      (leb-true _ _ (w .0), ltb-true _ 8 (f .0), a≡)
+      let n≡ : next ≡ at + 9 = cc in
+      (leb-true _ _ (w .0), ltb-true _ 8 (f .0), a≡, n≡)
 
-  pub analog-read : recordAt AnalogForm image at ≡ Recorded a next → (at + 61 ≤ length image) × (getD image at 0 < 32) × (analogAlarm image at ≡ a)
+  pub analog-read : recordAt AnalogForm image at ≡ Recorded a next
+      → (at + 61 ≤ length image) × (getD image at 0 < 32) × (analogAlarm image at ≡ a) × (next ≡ at + 61)
   unfolding recordAt analogRecord
   analog-read e =
       let g = limitsAt image (at + 25) in
@@ -46,4 +49,5 @@ module _ (image : List ℕ) (at : ℕ) {a : Alarm} {next : ℕ} where
       let n = read-true numbers third (refusal 4 at) (f .1) in
       let l = read-true (apart (getD image at 0) g) read (refusal 5 at) (n .1) in
       let a≡ : analogAlarm image at ≡ a = cc in
-      (leb-true _ _ (w .0), ltb-true _ 32 (f .0), a≡)
+      let n≡ : next ≡ at + 61 = cc in
+      (leb-true _ _ (w .0), ltb-true _ 32 (f .0), a≡, n≡)
