@@ -15,7 +15,7 @@ use Rattle.wire.specs.Internal.Words.{words}
 use Rattle.wire.specs.Real.{bounded, realAt}
 use Rattle.wire.proofs.Laws.{part-suc, wordsAt, words-back, number-lt}
 use Rattle.wire.proofs.Reals.{pattern-back}
-use Rattle.settings_record.proofs.Laws.{digital-read, analog-read}
+use Rattle.settings_record.proofs.Laws.{was-read}
 use Rattle.settings_record.proofs.Sound.{sound}
 use Rattle.settings_record.specs.Record.{digitalAlarm, severitiesAt, limitsAt, analogAlarm, sizeOf, recordAt}
 use Rattle.image.specs.Internal.Write.{severityWords, limitWords, digitalBytes, analogBytes, kindBytes, recordBytes}
@@ -71,12 +71,17 @@ module _ (image : List ℕ) (b : T (areBytes image)) (at : ℕ) where
   analog-bounded e s = (rw (← e) at s) .within
 
 -- of a record of either form
+module _ (image : List ℕ) (b : T (areBytes image)) (at : ℕ) {a : Alarm} {next : ℕ} where
+  record-bytes : (form : Form) → recordAt form image at ≡ Recorded a next → recordBytes form a ≡ part image at (sizeOf form)
+  record-bytes DigitalForm e =
+      let r = was-read DigitalForm image at e in
+      rw (← r .alarm) (digital-bytes image b at (r .whole))
+  record-bytes AnalogForm e =
+      let r = was-read AnalogForm image at e in
+      rw (← r .alarm) (analog-bytes image b at (r .whole) (analog-bounded image b at (r .alarm) (sound AnalogForm image at e)))
+
 pub inverse : (form : Form) (image : List ℕ) → T (areBytes image) → (at : ℕ) {a : Alarm} {next : ℕ} → recordAt form image at ≡ Recorded a next
     → Inverse form image at a next
-inverse DigitalForm image b at {a} {next} e =
-    let r = digital-read image at e in
-    record { past = r .3; whole = omega (arith, r .0, r .3); bytes = rw (← r .2) (digital-bytes image b at (r .0)) }
-inverse AnalogForm image b at {a} {next} e =
-    let r = analog-read image at e in
-    let g = analog-bounded image b at (r .2) (sound AnalogForm image at e) in
-    record { past = r .3; whole = omega (arith, r .0, r .3); bytes = rw (← r .2) (analog-bytes image b at (r .0) g) }
+inverse form image b at e =
+    let r = was-read form image at e in
+    record { past = r .past; whole = omega (arith, r .whole, r .past); bytes = record-bytes image b at form e }

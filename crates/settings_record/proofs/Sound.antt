@@ -1,16 +1,15 @@
 -- What is true of an alarm that a record gave: the facts of its kind. Assumes nothing.
 use mathlib.Core.Path.{_≡_, subst}
 use mathlib.Core.List.{List}
-use mathlib.Core.Bool.{Bool, true, false, not, _&&_, _||_, cond, false≢true}
+use mathlib.Core.Bool.{Bool, true, false, not, _&&_, _||_, false≢true}
 use Prim.Native.Nat.{ℕ, _+_}
 use borrow.Author.Tests.{ltb-true, leb-true}
-use lib.Dec.{leb, ltb}
-use lib.ListN.{length, getD}
+use lib.Dec.{leb}
+use lib.ListN.{getD}
 use lib.Ieee.{binary32, lt, add, sub}
 use Rattle.wire.specs.Number.{number}
 use Rattle.wire.specs.Real.{bounded}
 use Rattle.wire.proofs.Laws.{and-true}
-use Rattle.settings.specs.Refusals.{refusal}
 use Rattle.settings.specs.Alarm.{onHH, onH, onL, onLL}
 use Rattle.settings.specs.Rules.{nonNegative, limitsInRange, durationInRange, inRange, ordered, rising, lowOf, highOf, banded, apart}
 use Rattle.settings.specs.Internal.Sound.{Bounded, Rising, Banded, SoundAlarm}
@@ -18,9 +17,9 @@ use Rattle.settings.specs.declared.types.Limits.{Limits}
 use Rattle.settings.specs.declared.types.Alarm.{Alarm}
 use Rattle.settings.specs.declared.types.Form.{Form}
 use Rattle.settings.specs.declared.types.Form.the-variants.{Digital as DigitalForm, Analog as AnalogForm}
-use Rattle.settings_record.specs.Record.{digitalAlarm, digitalRecord, limitsAt, analogAlarm, analogRecord, recordAt}
-use Rattle.settings_record.specs.declared.record.Record.the-variants.{Alarm as Recorded, Refused as NoRecord}
-use Rattle.settings_record.proofs.Laws.{read-true}
+use Rattle.settings_record.specs.Record.{digitalAlarm, limitsAt, analogAlarm, recordAt}
+use Rattle.settings_record.specs.declared.record.Record.the-variants.{Alarm as Recorded}
+use Rattle.settings_record.proofs.Laws.{was-read}
 
 -- ---- tests taken apart
 
@@ -75,47 +74,29 @@ bands flags g e =
       above = λ p q. and-true x y (both-true (onHH flags || onH flags) (onL flags || onLL flags) (x && y) e p q) .1;
     }
 
-module _ (image : List ℕ) (at : ℕ) {a : Alarm} {next : ℕ} where
-  digital-sound : digitalRecord image at ≡ Recorded a next → SoundAlarm DigitalForm a
-  unfolding digitalRecord digitalAlarm
-  digital-sound e =
-      let read = Recorded (digitalAlarm image at) (at + 9) in
-      let second = cond (durationInRange (number image (at + 5) 4)) read (NoRecord (refusal 4 at)) in
-      let f = read-true (ltb (getD image at 0) 8) second (refusal 3 at) e in
-      let d = read-true (durationInRange (number image (at + 5) 4)) read (refusal 4 at) (f .1) in
-      let a≡ : digitalAlarm image at ≡ a = cc in
-      subst (SoundAlarm DigitalForm) a≡ (record { known = ltb-true _ 8 (f .0); duration-range = leb-true _ 2147483647 (d .0) })
-
-  analog-sound : analogRecord image at ≡ Recorded a next → SoundAlarm AnalogForm a
-  unfolding analogRecord analogAlarm inRange apart
-  analog-sound e =
-      let g = limitsAt image (at + 25) in
-      let read = Recorded (analogAlarm image at) (at + 61) in
-      let third = cond (apart (getD image at 0) g) read (NoRecord (refusal 5 at)) in
-      let numbers = inRange g (number image (at + 53) 4) (number image (at + 57) 4) in
-      let f = read-true (ltb (getD image at 0) 32) (cond numbers third (NoRecord (refusal 4 at))) (refusal 3 at) e in
-      let n = read-true numbers third (refusal 4 at) (f .1) in
-      let l = read-true (apart (getD image at 0) g) read (refusal 5 at) (n .1) in
-      let n₁ = and-true _ (durationInRange (number image (at + 57) 4)) (n .0) in
-      let n₀ = and-true (limitsInRange g) (leb (number image (at + 53) 4) 3600000) (n₁ .0) in
-      let r = in-range g (n₀ .0) in
-      let o = and-true (rising (getD image at 0) g) (banded (getD image at 0) g) (l .0) in
-      let a≡ : analogAlarm image at ≡ a = cc in
-      subst (SoundAlarm AnalogForm) a≡
-      (record {
-        known = ltb-true _ 32 (f .0);
-        within = r .0;
-        deadband-sign = r .1;
-        rocpos-sign = r .2;
-        rocneg-sign = r .3;
-        rises = rises _ g (o .0);
-        bands = bands _ g (o .1);
-        period-range = leb-true _ 3600000 (n₀ .1);
-        duration-range = leb-true _ 2147483647 (n₁ .1);
-      })
-
 -- of a record of either form
 pub sound : (form : Form) (image : List ℕ) (at : ℕ) {a : Alarm} {next : ℕ} → recordAt form image at ≡ Recorded a next → SoundAlarm form a
-unfolding recordAt
-sound DigitalForm image at e = digital-sound image at (read-true (leb (at + 9) (length image)) (digitalRecord image at) (refusal 1 at) e .1)
-sound AnalogForm image at e = analog-sound image at (read-true (leb (at + 61) (length image)) (analogRecord image at) (refusal 1 at) e .1)
+unfolding digitalAlarm analogAlarm inRange apart
+sound DigitalForm image at e =
+    let r = was-read DigitalForm image at e in
+    subst (SoundAlarm DigitalForm) (r .alarm) (record { known = ltb-true _ 8 (r .passed .0); duration-range = leb-true _ 2147483647 (r .passed .1 .0) })
+sound AnalogForm image at e =
+    let r = was-read AnalogForm image at e in
+    let flags = getD image at 0 in
+    let g = limitsAt image (at + 25) in
+    let n₁ = and-true _ (durationInRange (number image (at + 57) 4)) (r .passed .1 .0) in
+    let n₀ = and-true (limitsInRange g) (leb (number image (at + 53) 4) 3600000) (n₁ .0) in
+    let n = in-range g (n₀ .0) in
+    let o = and-true (rising flags g) (banded flags g) (r .passed .1 .1 .0) in
+    subst (SoundAlarm AnalogForm) (r .alarm)
+    (record {
+      known = ltb-true _ 32 (r .passed .0);
+      within = n .0;
+      deadband-sign = n .1;
+      rocpos-sign = n .2;
+      rocneg-sign = n .3;
+      rises = rises flags g (o .0);
+      bands = bands flags g (o .1);
+      period-range = leb-true _ 3600000 (n₀ .1);
+      duration-range = leb-true _ 2147483647 (n₁ .1);
+    })
