@@ -5,9 +5,9 @@ use Prim.Native.Nat.{ℕ}
 use lib.ListN.{getD}
 use Rattle.wire.specs.Number.{value}
 use Rattle.settings.specs.Alarm.{blank, blanks, empty}
-use Rattle.settings.specs.Refusals.{refusal}
+use Rattle.settings.specs.Refusals.{refusal, checked}
 use Rattle.reader.specs.Count.{countAt}
-use Rattle.settings_record.specs.Record.{recordAt, checked, digitalAlarm}
+use Rattle.settings_record.specs.Record.{recordAt, digitalAlarm}
 use Rattle.reader.specs.Section.{sectionAt, recordsFrom}
 use Rattle.reader.specs.Read.{readOf, restOf}
 use Rattle.settings.specs.declared.types.Kind.the-variants.{Digital}

@@ -23,6 +23,11 @@ abbrev pub wordAt : Form → List ℕ → ℕ → ℕ
 wordAt Digital rec at = number rec (at + 1) 4
 wordAt Analog rec at = number rec (at + 4) 4
 
+-- how many bytes the part has
+abbrev pub entrySize : Form → ℕ
+entrySize Digital = 5
+entrySize Analog = 8
+
 -- where the part of the alarm at a place begins
 abbrev pub offsetOf : ℕ → ℕ → ℕ
 offsetOf digital place = 8 + 5 * min place digital + 8 * (place - digital)

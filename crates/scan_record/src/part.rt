@@ -1,6 +1,6 @@
 // How long one alarm's part of a record is.
 ghost use mathlib.Core.Path.{_≡_};
-ghost use Rattle.scan_record.specs.Internal.Size.{entrySize};
+ghost use Rattle.scan_record.specs.Part.{entrySize};
 use settings::types::Form;
 
 pub fn part_size(form: Form) -> usize

@@ -7,11 +7,11 @@ use native.Mathlib.Omega.{arith}
 use borrow.Author.Tests.{leb-true}
 use lib.Dec.{leb}
 use lib.ListN.{length}
-use Rattle.settings.specs.Refusals.{incomplete}
+use Rattle.settings.specs.Refusals.{incomplete, checked}
 use Rattle.settings.specs.declared.types.Alarm.{Alarm}
 use Rattle.settings.specs.declared.types.Form.{Form}
 use Rattle.settings.specs.declared.reply.Refusal.{Refusal}
-use Rattle.settings_record.specs.Record.{sizeOf, fieldsAt, checked, checksOf, recordAt}
+use Rattle.settings_record.specs.Record.{sizeOf, fieldsAt, checksOf, recordAt}
 use Rattle.settings_record.specs.declared.record.Record.{Record}
 use Rattle.settings_record.specs.declared.record.Record.the-variants.{Alarm as Recorded, Refused as NoRecord}
 
@@ -21,13 +21,13 @@ Passed [] = Unit {0}
 Passed (c ∷ rest) = (c .1 ≡ true) × Passed rest
 
 -- where checks end in a record, each holds, and the record is what was read
-all-passed : (row : List (Refusal × Bool)) (x : Record) {a : Alarm} {next : ℕ} → checked row x ≡ Recorded a next → Passed row × (x ≡ Recorded a next)
+all-passed : (row : List (Refusal × Bool)) (x : Record) {a : Alarm} {next : ℕ} → checked NoRecord row x ≡ Recorded a next → Passed row × (x ≡ Recorded a next)
 unfolding checked
 all-passed [] x e = (tt, e)
 all-passed (c ∷ rest) x {a} {next} e = go (c .1) refl (all-passed rest x) e
   where
-    go : (b : Bool) → c .1 ≡ b → (checked rest x ≡ Recorded a next → Passed rest × (x ≡ Recorded a next))
-        → cond b (checked rest x) (NoRecord (c .0)) ≡ Recorded a next → ((c .1 ≡ true) × Passed rest) × (x ≡ Recorded a next)
+    go : (b : Bool) → c .1 ≡ b → (checked NoRecord rest x ≡ Recorded a next → Passed rest × (x ≡ Recorded a next))
+        → cond b (checked NoRecord rest x) (NoRecord (c .0)) ≡ Recorded a next → ((c .1 ≡ true) × Passed rest) × (x ≡ Recorded a next)
     go true f ih e = let p = ih e in ((f, p .0), p .1)
     go false f ih e = let z : _≡_ {A = ℕ} 0 1 = cc in absurd (omega arith)
 

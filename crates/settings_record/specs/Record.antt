@@ -1,13 +1,13 @@
 -- An alarm's record: its fields by offset, and the first refusal that applies. Each refusal's place is the record's offset.
 use Prim.Native.Nat.{ℕ, _+_}
 use mathlib.Core.List.{List, [], _∷_}
-use mathlib.Core.Bool.{Bool, cond}
+use mathlib.Core.Bool.{Bool}
 use lib.Dec.{ltb, leb}
 use lib.ListN.{length, getD}
 use lib.Ieee.{Float}
 use Rattle.wire.specs.Number.{number}
 use Rattle.wire.specs.Real.{realAt}
-use Rattle.settings.specs.Refusals.{outOfRange, unknownFlag, wrongLimits, incomplete}
+use Rattle.settings.specs.Refusals.{outOfRange, unknownFlag, wrongLimits, incomplete, checked}
 use Rattle.settings.specs.Rules.{durationInRange, inRange, apart}
 use Rattle.settings.specs.declared.types.Limits.{Limits}
 use Rattle.settings.specs.declared.types.Severities.{Severities}
@@ -56,11 +56,6 @@ abbrev pub fieldsAt : Form → List ℕ → ℕ → Alarm
 fieldsAt DigitalForm image at = digitalAlarm image at
 fieldsAt AnalogForm image at = analogAlarm image at
 
--- of checks, each a refusal and the test that spares it, the first that fails gives its refusal; what was read stands where all hold
-unfoldable pub checked : List (Refusal × Bool) → Record → Record
-checked [] read = read
-checked (c ∷ rest) read = cond (c .1) (checked rest read) (Refused (c .0))
-
 -- 3 a flag above bit 2, or above bit 4 of an analog alarm; 4 a number out of its range; 5 the order of levels or Deadband
 abbrev pub checksOf : Kind → ℕ → ℕ → ℕ → List (Refusal × Bool)
 checksOf (Digital severity) flags duration at = (unknownFlag at, ltb flags 8) ∷ (outOfRange at, durationInRange duration) ∷ []
@@ -71,6 +66,6 @@ checksOf (Analog g severities period) flags duration at =
 unfoldable pub recordAt : Form → List ℕ → ℕ → Record
 recordAt form image at =
     let a = fieldsAt form image at in
-    checked
+    checked Refused
     ((incomplete at, leb (at + sizeOf form) (length image)) ∷ checksOf (a .kind) (a .flags) (a .duration) at)
     (Read a (at + sizeOf form))

@@ -1,7 +1,8 @@
 -- `settings_record::record::analog_record` meets its contract: each return takes the case that its tests led to. Assumes nothing.
 use borrow.Author.Needs.{needs}
 use mathlib.Core.Path.{_∙_}
-use Rattle.settings_record.specs.Record.{checked, analogAlarm}
+use Rattle.settings_record.specs.Record.{analogAlarm}
+use Rattle.settings.specs.Refusals.{checked}
 use borrow.Author.Tests.{le-ltb, lt-ltb, not-true, not-false}
 use Rattle.settings_record.proofs.record.analog_record.Statement.{statement}
 use Rattle.settings_record.proofs.record.analog_record.Tie as tie

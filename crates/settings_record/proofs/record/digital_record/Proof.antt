@@ -1,7 +1,8 @@
 -- `settings_record::record::digital_record` meets its contract: each return takes the case that its tests led to. Assumes nothing.
 use borrow.Author.Needs.{needs}
 use mathlib.Core.Path.{_∙_}
-use Rattle.settings_record.specs.Record.{checked, digitalAlarm}
+use Rattle.settings_record.specs.Record.{digitalAlarm}
+use Rattle.settings.specs.Refusals.{checked}
 use borrow.Author.Tests.{le-ltb, lt-ltb, le-leb, lt-leb}
 use Rattle.settings_record.proofs.record.digital_record.Statement.{statement}
 use Rattle.settings_record.proofs.record.digital_record.Tie as tie

@@ -8,7 +8,8 @@ use Prim.Native.Nat.{_+_}
 use native.Mathlib.Omega.{arith}
 use mathlib.Core.Path.{_≡_, sym, ap, _∙_}
 use borrow.Author.Tests.{le-leb, leb-true, not-true, not-false}
-use Rattle.settings_record.specs.Record.{sizeOf, recordAt, checked}
+use Rattle.settings_record.specs.Record.{sizeOf, recordAt}
+use Rattle.settings.specs.Refusals.{checked}
 use Rattle.settings_record.proofs.record.record_at.Statement.{statement}
 use Rattle.settings_record.proofs.record.record_at.Tie as tie
 
