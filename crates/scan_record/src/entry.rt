@@ -7,6 +7,10 @@ ghost use Rattle.wire.specs.Bits.{isOneOf, setsOnly};
 ghost use Rattle.wire.specs.Internal.Words.{maskOf};
 ghost use Rattle.scan_record.specs.Part.{entrySize};
 ghost use Rattle.scan_record.specs.Entry.{bitsOf, entryAt};
+use crate::part::ANALOG_PART;
+use crate::part::ANALOG_WORD;
+use crate::part::DIGITAL_PART;
+use crate::part::DIGITAL_WORD;
 use settings::refusals::BAD_REAL;
 use settings::refusals::NOT_A_BIT;
 use settings::refusals::UNKNOWN_COMMAND;
@@ -55,14 +59,14 @@ fn digital_entry(bytes: &[u8], at: usize, alarm: usize) -> Entry
     ensures { λ r. ⌜ r ≡ entryAt Form.Digital (now (bytes .entry)) at alarm ⌝ }
 {
     let input = bytes[at];
-    let word = get_u32(bytes, at + 1);
+    let word = get_u32(bytes, at + DIGITAL_WORD);
     if 1 < input {
         return refuse(NOT_A_BIT, alarm);
     }
     if !is_command(word, Form::Digital) {
         return refuse(UNKNOWN_COMMAND, alarm);
     }
-    Entry::Read(Reading::Digital(input == 1), word, at + 5)
+    Entry::Read(Reading::Digital(input == 1), word, at + DIGITAL_PART)
 }
 
 fn analog_entry(bytes: &[u8], at: usize, alarm: usize) -> Entry
@@ -70,14 +74,14 @@ fn analog_entry(bytes: &[u8], at: usize, alarm: usize) -> Entry
     ensures { λ r. ⌜ r ≡ entryAt Form.Analog (now (bytes .entry)) at alarm ⌝ }
 {
     let x = get_real(bytes, at);
-    let word = get_u32(bytes, at + 4);
+    let word = get_u32(bytes, at + ANALOG_WORD);
     if !is_bounded(x) {
         return refuse(BAD_REAL, alarm);
     }
     if !is_command(word, Form::Analog) {
         return refuse(UNKNOWN_COMMAND, alarm);
     }
-    Entry::Read(Reading::Level(x), word, at + 8)
+    Entry::Read(Reading::Level(x), word, at + ANALOG_PART)
 }
 
 // The part of alarm number `alarm`, at an offset.
