@@ -3,6 +3,7 @@ use mathlib.Core.Path.{_≡_, refl, sym, ap₂, subst, _∙_}
 use mathlib.Core.List.{List}
 use Prim.Native.Nat.{ℕ, zero, suc, _+_, _≤_, _<_}
 use native.Mathlib.Omega.{arith}
+use borrow.Author.Tests.{ltb-true}
 use lib.Dec.{T}
 use lib.ListN.{length, getD, replicate, length-replicate, getD-replicate}
 use lib.Pow.{areBytes}
@@ -18,7 +19,7 @@ use Rattle.settings.specs.declared.types.Form.the-variants.{Digital as DigitalF
 use Rattle.settings.specs.declared.reply.Reply.the-variants.{Accepted}
 use Rattle.settings_record.specs.Record.{recordAt, digitalAlarm, analogAlarm, limitsAt, severitiesAt}
 use Rattle.settings_record.specs.declared.record.Record.the-variants.{Alarm as Recorded}
-use Rattle.settings_record.proofs.Laws.{digital-read, analog-read}
+use Rattle.settings_record.proofs.Laws.{was-read}
 use Rattle.layout.specs.Internal.Block.{placed, settingsIn, settingsWords}
 use Rattle.layout.proofs.Laws.{length-placed, placed-below}
 use Rattle.layout.proofs.Back.{Kept, digital-kept, Reals, analog-kept, block-is, settings-back}
@@ -81,8 +82,13 @@ module _ (image : List ℕ) (b : T (areBytes image)) where
 
   -- an alarm that was read is said again by its words
   each : (form : Form) (at : ℕ) (a : Alarm) (next : ℕ) → recordAt form image at ≡ Recorded a next → Kept form a
-  each DigitalForm at a next e = let r = digital-read image at e in subst (Kept DigitalForm) (r .2) (digital-alarm at (r .0) (r .1))
-  each AnalogForm at a next e = let r = analog-read image at e in subst (Kept AnalogForm) (r .2) (analog-alarm at (r .0) (r .1))
+  unfolding digitalAlarm analogAlarm
+  each DigitalForm at a next e =
+      let r = was-read DigitalForm image at e in
+      subst (Kept DigitalForm) (r .alarm) (digital-alarm at (r .whole) (ltb-true _ 8 (r .passed .0)))
+  each AnalogForm at a next e =
+      let r = was-read AnalogForm image at e in
+      subst (Kept AnalogForm) (r .alarm) (analog-alarm at (r .whole) (ltb-true _ 32 (r .passed .0)))
 
   pub loaded-settings : settingsIn (settingsWords (readOf image .settings)) ≡ readOf image .settings
   loaded-settings =

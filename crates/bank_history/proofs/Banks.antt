@@ -22,7 +22,7 @@ use Rattle.settings.specs.declared.types.Kind.the-variants.{Digital, Analog}
 use Rattle.settings.specs.declared.types.Form.{Form}
 use Rattle.settings.specs.declared.types.Form.the-variants.{Digital as DigitalForm, Analog as AnalogForm}
 use Rattle.settings.specs.declared.reply.Reply.the-variants.{Accepted}
-use Rattle.image.specs.Internal.Accepted.{AcceptedFrom}
+use Rattle.reader.specs.Internal.Sound.{SoundSettings}
 use Rattle.step.specs.Internal.Held.{freshState, lookDigital, realPatterns, lookAnalog, runOf, cellOf, Six, HH, H, L, LL, ROCPos, ROCNeg, Side, High, Low, place}
 use Rattle.step.specs.Internal.Digital.{digitalStep}
 use Rattle.step.specs.Internal.Analog.{analogStep}
@@ -51,7 +51,7 @@ stateAt b p = getD (b .states) p freshState
 
 -- a bank with accepted settings keeps what those records say, the latest first
 pub record Kept (image : List ℕ) (past : List (List ℕ)) (b : Bank) : Type 0 where
-  pub sound : AcceptedFrom image (b .settings)
+  pub sound : SoundSettings (b .settings)
   pub time : b .time ≡ lastAccepted past
   pub states-long : length (b .states) ≡ 24
   pub marks-long : length (b .marks) ≡ 900
@@ -97,7 +97,7 @@ fresh-analog =
       cell = fun-ext fresh-cell i;
     }
 
-pub fresh-kept : (image : List ℕ) (s : Settings) → AcceptedFrom image s → Kept image [] (freshBank s)
+pub fresh-kept : (image : List ℕ) (s : Settings) → SoundSettings s → Kept image [] (freshBank s)
 unfolding freshBank digitalRun analogRun digitalMarks analogMarks resetKept
 fresh-kept image s ok =
     record {

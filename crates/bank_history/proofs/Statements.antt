@@ -22,6 +22,7 @@ use Rattle.reader.specs.Read.{readOf}
 use Rattle.image.specs.Internal.Write.{imageOf, writtenOf, imageBuffer}
 use Rattle.image.specs.declared.write.Written.the-variants.{Length, Refused}
 use Rattle.image.proofs.RoundTrip as RoundTrip
+use Rattle.reader.proofs.Sound.{sound-settings}
 use Rattle.scan_record.specs.Check.{checkRecord}
 use Rattle.settings.specs.declared.reply.Reply.the-variants.{Accepted}
 use Rattle.alarm_history.specs.Facts.{rulesOf, facts}
@@ -76,7 +77,7 @@ module _ (image : List ℕ) (calls : List Call) (good : Good image) where
 
   after-all : Kept image past b × (b .settings ≡ s)
   unfolding loadOf freshBank
-  after-all = kept-after image calls [] (loadOf image .bank) (fresh-kept image s (RoundTrip.accepted image (good .0) (good .1)))
+  after-all = kept-after image calls [] (loadOf image .bank) (fresh-kept image s (sound-settings image))
 
   -- the words stand for it
   fits : fitOf w ≡ Accepted

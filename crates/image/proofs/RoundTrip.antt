@@ -1,11 +1,10 @@
--- Settings that are read are written back to the same bytes; how long an accepted image is; what is true of its alarms. Assumes nothing.
+-- Settings that are read are written back to the same bytes; how long an accepted image is. Assumes nothing.
 use mathlib.Core.Path.{_≡_, refl, sym, ap, ap₂, subst, _∙_}
 use mathlib.Core.List.{List, _∷_, _++_}
 use mathlib.Core.Bool.{Bool, true, false, cond}
 use Prim.Native.Nat.{ℕ, zero, suc, _+_, _*_, _≤_, _<_}
-use native.Mathlib.Nat.{add-zero, mul-zero, mul-suc, zero-add, le-refl, lt-of-not-le}
+use native.Mathlib.Nat.{add-zero, mul-zero, mul-suc, zero-add, le-refl}
 use native.Mathlib.Numerals.{add-one, one-add, lt-add-one}
-use native.Mathlib.Decide.{decLe}
 use native.Mathlib.Omega.{arith}
 use borrow.Author.Tests.{ltb-false, le-leb, lt-leb}
 use lib.Dec.{T, leb, ltb}
@@ -20,9 +19,8 @@ use Rattle.settings_record.specs.Record.{recordAt, sizeOf}
 use Rattle.reader.specs.Section.{recordsFrom, sectionAt, onRecord, onCount}
 use Rattle.reader.specs.Read.{readOf, restOf, onSection, refusedBy}
 use Rattle.image.specs.Internal.Write.{recordsBytes, sectionBytes, imageOf, hasRoom, writtenOf, imageBuffer}
-use Rattle.settings.specs.Refusals.{refusal}
-use Rattle.settings.specs.Internal.Sound.{SoundAlarm}
-use Rattle.image.specs.Internal.Accepted.{AcceptedFrom}
+use Rattle.settings.specs.Refusals.{refusal, leftOver}
+use Rattle.image.specs.Internal.RoundTrip.{RoundTrip}
 use Rattle.settings.specs.declared.types.Alarm.{Alarm}
 use Rattle.settings.specs.declared.types.Form.{Form}
 use Rattle.settings.specs.declared.types.Form.the-variants.{Digital as DigitalForm, Analog as AnalogForm}
@@ -40,6 +38,7 @@ use Rattle.reader.specs.declared.read.Loaded.{Loaded}
 use Rattle.image.specs.declared.write.Written.the-variants.{Length, Refused as TooShort}
 use Rattle.image.proofs.Inverse.{Inverse, inverse}
 use Rattle.reader.proofs.Sections.{count-read, records-count}
+use Rattle.reader.proofs.Sound.{sound-settings}
 
 -- ---- a section's records
 
@@ -49,7 +48,6 @@ pub record Walked (form : Form) (image : List ℕ) (k place at : ℕ) (alarms fi
   pub whole : at ≤ length image → next ≤ length image
   pub long : length filled ≡ length alarms
   pub kept : take place filled ≡ take place alarms
-  pub sound : (i : ℕ) → place ≤ i → i < place + k → SoundAlarm form (getD filled i blank)
   pub bytes : recordsBytes form (slice place (place + k) filled) ≡ part image at (sizeOf form * k)
 
 module _ (form : Form) (image : List ℕ) (k place at : ℕ) (alarms : List Alarm) (a : Alarm) (past next : ℕ) (filled : List Alarm)
@@ -72,15 +70,6 @@ module _ (form : Form) (image : List ℕ) (k place at : ℕ) (alarms : List Alar
       slice-cons place (place + suc k) filled blank (omega arith) long
       ∙ ap₂ (λ (x : Alarm) (l : List Alarm). x ∷ l) first-place (rw (← e, add-one))
 
-  sound-first : (i : ℕ) → place ≤ i → i < place + suc k → SoundAlarm form (getD filled i blank)
-  sound-first i p q = go (decLe (place + 1) i)
-    where
-      go : Dec (place + 1 ≤ i) → SoundAlarm form (getD filled i blank)
-      go (yes l) = w .sound i l (omega arith)
-      go (no l) =
-          let i≡ : i ≡ place = omega (arith, lt-of-not-le l) in
-          subst (SoundAlarm form) (sym (ap (λ (j : ℕ). getD filled j blank) i≡ ∙ first-place)) (r .sound)
-
   walked-more : Walked form image (suc k) place at alarms filled next
   unfolding recordsBytes
   walked-more =
@@ -94,7 +83,6 @@ module _ (form : Form) (image : List ℕ) (k place at : ℕ) (alarms : List Alar
             ∙ ap (take place) (w .kept)
             ∙ take-take place (place + 1) (set alarms place a) (omega arith)
             ∙ take-set-le place alarms place a (le-refl place);
-        sound = sound-first;
         bytes =
             ap (recordsBytes form) places
             ∙ ap₂ (λ (x y : List ℕ). x ++ y) (r .bytes) (w .bytes ∙ ap (λ (j : ℕ). part image j (size * k)) (r .past))
@@ -113,7 +101,6 @@ walked form image b n zero place at alarms {m} {next} h e =
       whole = λ w. omega arith;
       long = refl;
       kept = refl;
-      sound = λ i p q. absurd (omega arith);
       bytes = simp (add-zero, slice-empty, mul-zero);
     }
 walked form image b n (suc k) place at alarms {m} {next} h e =
@@ -139,7 +126,6 @@ pub record SectionRead (form : Form) (image : List ℕ) (first at : ℕ) (alarms
   pub whole : next ≤ length image
   pub long : length filled ≡ length alarms
   pub kept : take first filled ≡ take first alarms
-  pub sound : (i : ℕ) → first ≤ i → i < first + n → SoundAlarm form (getD filled i blank)
   pub bytes : sectionBytes form first n filled ≡ part image at (1 + sizeOf form * n)
 
 section-read : (form : Form) (image : List ℕ) → T (areBytes image) → (first at : ℕ) (alarms : List Alarm) {n next : ℕ} → first + 12 ≤ length alarms
@@ -167,7 +153,6 @@ section-read form image b first at alarms {n} {next} h e = go (countAt image at)
           whole = w .whole (omega (arith, c .past, c .here));
           long = w .long;
           kept = w .kept;
-          sound = w .sound;
           bytes =
               ap₂ (λ (x : ℕ) (l : List ℕ). x ∷ l) (c .count) (w .bytes ∙ rw (c .past, add-one))
               ∙ sym (part-suc image at (sizeOf form * m) (c .here)) ∙ ap (part image at) (sym (one-add (sizeOf form * m)));
@@ -180,9 +165,6 @@ section-read form image b first at alarms {n} {next} h e = go (countAt image at)
 kept-slice : (n : ℕ) (xs ys : List Alarm) → take n xs ≡ take n ys → slice 0 (0 + n) xs ≡ slice 0 (0 + n) ys
 kept-slice n xs ys e = rw zero-add e
 
-kept-place : (n i : ℕ) (xs ys : List Alarm) → i < n → take n xs ≡ take n ys → getD xs i blank ≡ getD ys i blank
-kept-place n i xs ys h e = sym (getD-take n xs i blank h) ∙ ap (λ (l : List Alarm). getD l i blank) e ∙ getD-take n ys i blank h
-
 module _ (image : List ℕ) (b : T (areBytes image)) where
   whole-image : (d a : ℕ) {next end : ℕ} → next ≡ 0 + (1 + 9 * d) → end ≡ next + (1 + 61 * a) → end ≤ length image → length image ≤ end
       → part image 0 (1 + 9 * d) ++ part image next (1 + 61 * a) ≡ image
@@ -191,51 +173,47 @@ module _ (image : List ℕ) (b : T (areBytes image)) where
       ap (λ (j : ℕ). part image 0 (1 + 9 * d) ++ part image j (1 + 61 * a)) p
       ∙ sym (part-add image 0 (1 + 9 * d) (1 + 61 * a)) ∙ take-all (1 + 9 * d + (1 + 61 * a)) image n
 
-  accepted-sections : (d a next end : ℕ) (alarms : List Alarm) (filled : List Alarm)
+  back-sections : (d a next end : ℕ) (alarms : List Alarm) (filled : List Alarm)
       → SectionRead DigitalForm image 0 0 blanks alarms d next → SectionRead AnalogForm image d next alarms filled a end → length image ≤ end
-      → AcceptedFrom image (record { digital = d; analog = a; alarms = filled })
+      → RoundTrip image (record { digital = d; analog = a; alarms = filled })
   unfolding imageOf sectionBytes blanks
-  accepted-sections d a next end alarms filled x y h =
+  back-sections d a next end alarms filled x y h =
       record {
-        digital-most = x .most;
-        analog-most = y .most;
-        long = y .long ∙ x .long;
         size = omega (arith, x .past, y .past, y .whole);
-        digital-sound = λ i k.
-            subst (SoundAlarm DigitalForm) (sym (kept-place d i filled alarms k (y .kept)))
-            (x .sound i (omega arith) (omega arith));
-        analog-sound = λ i k l. y .sound i k l;
         back =
-            ap₂ (λ (u v : List ℕ). u ++ v) (ap (λ (l : List Alarm). d ∷ recordsBytes DigitalForm l) (kept-slice d filled alarms (y .kept)) ∙ x .bytes) (y .bytes)
+            ap₂ (λ (u v : List ℕ). u ++ v)
+            (ap (λ (l : List Alarm). d ∷ recordsBytes DigitalForm l) (kept-slice d filled alarms (y .kept)) ∙ x .bytes) (y .bytes)
             ∙ whole-image d a (x .past) (y .past) (y .whole) h;
       }
 
   -- the analog section and the end
-  accepted-rest : (d next : ℕ) (alarms : List Alarm) → d ≤ 12 → SectionRead DigitalForm image 0 0 blanks alarms d next
-      → restOf image d next alarms .reply ≡ Accepted → AcceptedFrom image (restOf image d next alarms .settings)
+  back-rest : (d next : ℕ) (alarms : List Alarm) → d ≤ 12 → SectionRead DigitalForm image 0 0 blanks alarms d next
+      → restOf image d next alarms .reply ≡ Accepted → RoundTrip image (restOf image d next alarms .settings)
   unfolding restOf blanks
-  accepted-rest d next alarms m x e = go (filled .section) refl e
+  back-rest d next alarms m x e = go (filled .section) refl e
     where
       filled : Filled
       filled = sectionAt AnalogForm image d next alarms
 
+      read : ℕ → Loaded
+      read a = record { settings = record { digital = d; analog = a; alarms = filled .alarms }; reply = Accepted }
+
       done : ℕ → ℕ → Loaded
-      done a end = cond (ltb end (length image)) (refusedBy (refusal 6 end)) (record { settings = record { digital = d; analog = a; alarms = filled .alarms }; reply = Accepted })
+      done a end = cond (ltb end (length image)) (refusedBy (leftOver end)) (read a)
 
       ended : (a end : ℕ) (t : Bool) → ltb end (length image) ≡ t → filled .section ≡ Read a end
-          → cond t (refusedBy (refusal 6 end)) (record { settings = record { digital = d; analog = a; alarms = filled .alarms }; reply = Accepted }) .reply ≡ Accepted
-          → AcceptedFrom image (cond t (refusedBy (refusal 6 end)) (record { settings = record { digital = d; analog = a; alarms = filled .alarms }; reply = Accepted }) .settings)
+          → cond t (refusedBy (leftOver end)) (read a) .reply ≡ Accepted → RoundTrip image (cond t (refusedBy (leftOver end)) (read a) .settings)
       ended a end true f g e = let z : _≡_ {A = ℕ} 0 1 = cc in absurd (omega arith)
       ended a end false f g e =
-          accepted-sections d a next end alarms (filled .alarms) x
+          back-sections d a next end alarms (filled .alarms) x
           (section-read AnalogForm image b d next alarms (omega (arith, x .long)) g) (ltb-false end (length image) f)
 
-      go : (s : Section) → filled .section ≡ s → onSection s done .reply ≡ Accepted → AcceptedFrom image (onSection s done .settings)
+      go : (s : Section) → filled .section ≡ s → onSection s done .reply ≡ Accepted → RoundTrip image (onSection s done .settings)
       go (Read a end) f e = ended a end (ltb end (length image)) refl f e
       go (Refused r) f e = let z : _≡_ {A = ℕ} 0 1 = cc in absurd (omega arith)
 
-  -- the facts of accepted settings, with the round trip
-  pub accepted : readOf image .reply ≡ Accepted → AcceptedFrom image (readOf image .settings)
+  -- an accepted image's length, and what is written back
+  pub accepted : readOf image .reply ≡ Accepted → RoundTrip image (readOf image .settings)
   unfolding readOf blanks
   accepted e = go (filled .section) refl e
     where
@@ -245,10 +223,10 @@ module _ (image : List ℕ) (b : T (areBytes image)) where
       done : ℕ → ℕ → Loaded
       done d next = restOf image d next (filled .alarms)
 
-      go : (s : Section) → filled .section ≡ s → onSection s done .reply ≡ Accepted → AcceptedFrom image (onSection s done .settings)
+      go : (s : Section) → filled .section ≡ s → onSection s done .reply ≡ Accepted → RoundTrip image (onSection s done .settings)
       go (Read d next) f e =
           let x = section-read DigitalForm image b 0 0 blanks (omega arith) f in
-          accepted-rest d next (filled .alarms) (x .most) x e
+          back-rest d next (filled .alarms) (x .most) x e
       go (Refused r) f e = let z : _≡_ {A = ℕ} 0 1 = cc in absurd (omega arith)
 
 -- ---- what follows for the calls
@@ -262,13 +240,13 @@ module _ (image : List ℕ) (b : T (areBytes image)) (e : readOf image .reply �
   round-trip = accepted image b e .back
 
   pub longest : length image ≤ 842
-  longest = let s = accepted image b e in omega (arith, s .size, s .digital-most, s .analog-most)
+  longest = let s = sound-settings image in omega (arith, accepted image b e .size, s .digital-most, s .analog-most)
 
   pub room-is : (n : ℕ) → hasRoom (settings .digital) (settings .analog) n ≡ leb (length image) n
   unfolding hasRoom
   room-is n =
-      let s = accepted image b e in
-      rw (le-leb (settings .digital) 12 (s .digital-most), le-leb (settings .analog) 12 (s .analog-most), ← s .size) refl
+      let s = sound-settings image in
+      rw (le-leb (settings .digital) 12 (s .digital-most), le-leb (settings .analog) 12 (s .analog-most), ← accepted image b e .size) refl
 
   -- a buffer that is long enough gets the image, and reading its front gives the same settings again
   pub written : (out : List ℕ) → length image ≤ length out

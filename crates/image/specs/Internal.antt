@@ -1,3 +1,3 @@
 -- What contracts and proofs use and a reader need not believe.
 pub mod Write
-pub mod Accepted
+pub mod RoundTrip

@@ -8,7 +8,9 @@ use lib.Ieee.{binary32, ofBits, toBits, ofInt, sub, add, mul, div, neg, lt, le, 
 use Rattle.wire.specs.Number.{value, bytes}
 use Rattle.wire.specs.Internal.Words.{words}
 use Rattle.wire.specs.Real.{largest, bounded}
+use Rattle.wire.specs.Bits.{isOneOf, setsOnly}
 use Rattle.settings.specs.Alarm.{blanks, empty}
+use Rattle.settings.specs.Refusals.{checked}
 use Rattle.settings.specs.Rules.{limitsInRange, inRange, rising, banded, apart}
 use Rattle.history.specs.Past.{since, countFrom, rowStart, latest}
 use Rattle.history.specs.Demand.{inAlarm}
@@ -18,10 +20,10 @@ use Rattle.condition.specs.Event.{eventBytes, logBytes}
 use Rattle.level.specs.Level.{met, frees}
 use Rattle.settings.specs.Numbers.{newRate}
 use Rattle.reader.specs.Count.{countAt}
-use Rattle.settings_record.specs.Record.{digitalAlarm, digitalRecord, severitiesAt, limitsAt, analogAlarm, analogRecord, recordAt}
+use Rattle.settings_record.specs.Record.{digitalAlarm, severitiesAt, limitsAt, analogAlarm, recordAt}
 use Rattle.reader.specs.Section.{recordsFrom, sectionAt}
 use Rattle.reader.specs.Read.{restOf, readOf}
-use Rattle.scan_record.specs.Entry.{digitalEntry, analogEntry}
+use Rattle.scan_record.specs.Entry.{entryAt}
 use Rattle.scan_record.specs.Check.{checkFrom, whole, checkRecord}
 use Rattle.alarm_history.specs.Sample.{sampledAt, sampleIn, rateIn}
 use Rattle.report.specs.Empty.{noStatuses, noReport}
@@ -103,7 +105,7 @@ pub record Marked : Type 0 where
   pub k12-over : written (digitalImage 3 1001 0) [] (bit 0 1 0) 16 ≡ eventBytes (event 0 0 8 1000)
 
 pub all-marked : Marked
-unfolding value bytes largest bounded blanks empty limitsInRange inRange rising banded apart since countFrom rowStart latest inAlarm acks acting eventBytes logBytes met frees newRate sampledAt rateIn countAt digitalAlarm digitalRecord severitiesAt limitsAt analogAlarm analogRecord recordAt recordsFrom sectionAt restOf readOf digitalEntry analogEntry checkFrom whole checkRecord sampleIn noStatuses noReport scanLog accepted digitalImage words analogImage bit real ofBits ofInt sub add mul div neg lt le eq toBits
+unfolding value bytes largest bounded blanks empty limitsInRange inRange rising banded apart since countFrom rowStart latest inAlarm acks acting eventBytes logBytes met frees newRate sampledAt rateIn countAt digitalAlarm severitiesAt limitsAt analogAlarm checked recordAt recordsFrom sectionAt restOf readOf isOneOf setsOnly entryAt checkFrom whole checkRecord sampleIn noStatuses noReport scanLog accepted digitalImage words analogImage bit real ofBits ofInt sub add mul div neg lt le eq toBits
 all-marked =
     record {
       k1 = refl;
@@ -149,7 +151,7 @@ pub several : written (analogImage 22 numbers 0 0) (real 0 0x44480000 0 ∷ []) 
     ∷ record { alarm = 1; condition = 2; kind = 6; suppressed = true; severity = 500; time = 5 }
     ∷ record { alarm = 1; condition = 2; kind = 7; suppressed = true; severity = 500; time = 5 }
     ∷ record { alarm = 1; condition = 3; kind = 8; suppressed = true; severity = 500; time = 5 } ∷ [])
-unfolding value bytes largest bounded blanks empty limitsInRange inRange rising banded apart since countFrom rowStart latest inAlarm acks acting eventBytes logBytes met frees newRate sampledAt rateIn countAt digitalAlarm digitalRecord severitiesAt limitsAt analogAlarm analogRecord recordAt recordsFrom sectionAt restOf readOf digitalEntry analogEntry checkFrom whole checkRecord sampleIn noStatuses noReport scanLog accepted digitalImage words analogImage bit real ofBits ofInt sub add mul div neg lt le eq
+unfolding value bytes largest bounded blanks empty limitsInRange inRange rising banded apart since countFrom rowStart latest inAlarm acks acting eventBytes logBytes met frees newRate sampledAt rateIn countAt digitalAlarm severitiesAt limitsAt analogAlarm checked recordAt recordsFrom sectionAt restOf readOf isOneOf setsOnly entryAt checkFrom whole checkRecord sampleIn noStatuses noReport scanLog accepted digitalImage words analogImage bit real ofBits ofInt sub add mul div neg lt le eq
 several = refl
 
 -- the listing: its events, and how its condition ends
@@ -167,7 +169,7 @@ pub record Listing : Type 0 where
       ≡ record { alarm = false; acked = true; count = 1; alarmtime = 1000; acktime = 1400; returntime = 1300 }
 
 pub listing : Listing
-unfolding value bytes largest bounded blanks empty limitsInRange inRange rising banded apart since countFrom rowStart latest inAlarm acks acting eventBytes logBytes met frees newRate sampledAt rateIn countAt digitalAlarm digitalRecord severitiesAt limitsAt analogAlarm analogRecord recordAt recordsFrom sectionAt restOf readOf digitalEntry analogEntry checkFrom whole checkRecord sampleIn noStatuses noReport scanLog accepted digitalImage words analogImage bit real ofBits ofInt sub add mul div neg lt le eq
+unfolding value bytes largest bounded blanks empty limitsInRange inRange rising banded apart since countFrom rowStart latest inAlarm acks acting eventBytes logBytes met frees newRate sampledAt rateIn countAt digitalAlarm severitiesAt limitsAt analogAlarm checked recordAt recordsFrom sectionAt restOf readOf isOneOf setsOnly entryAt checkFrom whole checkRecord sampleIn noStatuses noReport scanLog accepted digitalImage words analogImage bit real ofBits ofInt sub add mul div neg lt le eq
 listing = record { at-1000 = refl; at-1100 = refl; at-1200 = refl; at-1300 = refl; at-1400 = refl; at-1500 = refl; end = refl }
 
 -- an image of the listing is the one that document 01 prints

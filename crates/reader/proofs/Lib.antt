@@ -1,3 +1,4 @@
 pub mod Sections
 pub mod Filled
+pub mod Sound
 mod Examples

@@ -1,3 +1,4 @@
 pub mod Count
 pub mod Section
 pub mod Read
+pub mod Internal

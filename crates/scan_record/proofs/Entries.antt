@@ -1,46 +1,49 @@
 -- Laws of a record's parts: where they end, and the walk through them. Assumes nothing.
 use mathlib.Core.Path.{_≡_, refl, sym, _∙_}
-use mathlib.Core.List.{List}
+use mathlib.Core.List.{List, [], _∷_}
 use mathlib.Core.Bool.{Bool, true, false, _&&_, cond}
 use Prim.Native.Nat.{ℕ, zero, suc, _+_, _-_, _≤_, _<_}
 use native.Mathlib.Nat.{sub-self}
 use native.Mathlib.Omega.{arith}
 use borrow.Author.Tests.{ltb-true, ltb-false, leb-true, eqb-true}
 use lib.Dec.{ltb, leb, eqb}
-use lib.ListN.{length, getD}
+use lib.ListN.{length}
 use Rattle.wire.proofs.Laws.{and-true}
-use Rattle.wire.specs.Real.{realAt, bounded}
-use Rattle.settings.specs.Refusals.{notABit, badReal, unknownCommand, wrongLength, earlierTime}
+use Rattle.wire.specs.Bits.{setsOnly}
+use Rattle.settings.specs.Refusals.{unknownCommand, wrongLength, earlierTime, checked}
 use Rattle.settings.specs.declared.types.Form.{Form}
 use Rattle.settings.specs.declared.types.Form.the-variants.{Digital, Analog}
 use Rattle.settings.specs.declared.reply.Refusal.{Refusal}
 use Rattle.settings.specs.declared.reply.Reply.{Reply}
 use Rattle.settings.specs.declared.reply.Reply.the-variants.{Accepted, Refused as RefusedBy}
 use Rattle.settings.specs.declared.types.Reading.{Reading}
-use Rattle.scan_record.specs.Entry.{digitalWord, analogWord, digitalEntry, analogEntry, entryAt}
-use Rattle.scan_record.specs.Internal.Size.{entrySize}
-use Rattle.scan_record.specs.Part.{recordSize, timeOf, offsetOf, readingAt, wordAt}
+use Rattle.scan_record.specs.Entry.{bitsOf, readingCheck, entryAt}
+use Rattle.scan_record.specs.Part.{recordSize, timeOf, offsetOf, readingAt, wordAt, entrySize}
 use Rattle.settings.specs.Alarm.{formAt}
 use Rattle.scan_record.specs.Check.{checkFrom, whole, checkRecord}
 use Rattle.scan_record.specs.declared.entry.Entry.the-variants.{Read, Refused}
 use Rattle.scan_record.specs.declared.entry.Entry.{Entry}
 
--- a choice of reading or refusals that ended in a reading
-picked : (p q : Bool) (x y : Reading) (v w n m : ℕ) (r r′ : Refusal) → cond p (cond q (Read x v n) (Refused r)) (Refused r′) ≡ Read y w m → Read x v n ≡ Read y w m
-picked true true x y v w n m r r′ e = e
-picked true false x y v w n m r r′ e = cc
-picked false q x y v w n m r r′ e = cc
+-- checks that ended in a reading let it stand
+stands : (row : List (Refusal × Bool)) {x y : Reading} {v w n m : ℕ} → checked Refused row (Read x v n) ≡ Read y w m → Read x v n ≡ Read y w m
+unfolding checked
+stands [] e = e
+stands (c ∷ rest) {x} {y} {v} {w} {n} {m} e = go (c .1) (stands rest) e
+  where
+    go : (b : Bool) → (checked Refused rest (Read x v n) ≡ Read y w m → Read x v n ≡ Read y w m)
+        → cond b (checked Refused rest (Read x v n)) (Refused (c .0)) ≡ Read y w m → Read x v n ≡ Read y w m
+    go true ih e = ih e
+    go false ih e = cc
 
 -- a part that was read is what stands there, and ends past its bytes
 pub entry-read : (form : Form) (bytes : List ℕ) (at alarm : ℕ) {x : Reading} {word next : ℕ} → entryAt form bytes at alarm ≡ Read x word next
     → Read (readingAt form bytes at) (wordAt form bytes at) (at + entrySize form) ≡ Read x word next
-unfolding digitalEntry analogEntry
-entry-read Digital bytes at alarm {x} {word} {next} e =
-    picked (leb (getD bytes at 0) 1) (digitalWord (wordAt Digital bytes at)) (readingAt Digital bytes at) x (wordAt Digital bytes at) word (at + 5) next (unknownCommand alarm) (notABit alarm) e
-entry-read Analog bytes at alarm {x} {word} {next} e =
-    picked (bounded (realAt bytes at)) (analogWord (wordAt Analog bytes at)) (readingAt Analog bytes at) x (wordAt Analog bytes at) word (at + 8) next (unknownCommand alarm) (badReal alarm) e
+unfolding entryAt
+entry-read form bytes at alarm e =
+    stands (readingCheck form bytes at alarm ∷ (unknownCommand alarm, setsOnly (bitsOf form) 32 (wordAt form bytes at)) ∷ []) e
 
-pub entry-past : (form : Form) (bytes : List ℕ) (at alarm : ℕ) {x : Reading} {word next : ℕ} → entryAt form bytes at alarm ≡ Read x word next → next ≡ at + entrySize form
+pub entry-past : (form : Form) (bytes : List ℕ) (at alarm : ℕ) {x : Reading} {word next : ℕ} → entryAt form bytes at alarm ≡ Read x word next
+    → next ≡ at + entrySize form
 entry-past form bytes at alarm e = let r = entry-read form bytes at alarm e in cc
 
 pub offset-next : (digital place : ℕ) → offsetOf digital place + entrySize (formAt digital place) ≡ offsetOf digital (place + 1)
@@ -76,7 +79,8 @@ module _ (bytes : List ℕ) (digital : ℕ) where
       entryAt form bytes at (p + 1) ≡ Read (readingAt form bytes at) (wordAt form bytes at) (at + entrySize form)
 
   -- in a record that passed, each part is read
-  pub all-read : (k place at : ℕ) → at ≡ offsetOf digital place → checkFrom bytes digital k place at ≡ Accepted → (p : ℕ) → place ≤ p → p < place + k → PartRead p
+  pub all-read : (k place at : ℕ) → at ≡ offsetOf digital place → checkFrom bytes digital k place at ≡ Accepted
+      → (p : ℕ) → place ≤ p → p < place + k → PartRead p
   unfolding checkFrom
   all-read zero place at o e p l h = absurd (omega arith)
   all-read (suc k) place at o e p l h =
@@ -94,6 +98,12 @@ module _ (bytes : List ℕ) (digital : ℕ) where
           here-or-later (rw o at (r ∙ sym whole)) (later next n (rw r at e)) (ltb place p) refl
       go (Refused x) r later = let f = rw r at e in let z : _≡_ {A = ℕ} 0 1 = cc in absurd (omega arith)
 
+-- the counts that pass the test for a bank's
+pub bank-says : (digital analog : ℕ) {r : Bool} → r ≡ leb digital 12 && leb analog 12 → r ≡ true → (digital ≤ 12) × (analog ≤ 12)
+bank-says digital analog e f =
+    let most = and-true (leb digital 12) (leb analog 12) (sym e ∙ f) in
+    (leb-true digital 12 (most .0), leb-true analog 12 (most .1))
+
 -- what a record of the right length says of the numbers of alarms
 pub record Whole (digital analog len : ℕ) : Type 0 where
   pub digital-most : digital ≤ 12
@@ -104,10 +114,10 @@ pub whole-says : (digital analog len : ℕ) → whole digital analog len ≡ tru
 unfolding whole
 whole-says digital analog len h =
     let size = and-true (leb digital 12 && leb analog 12) (eqb len (recordSize digital analog)) h in
-    let most = and-true (leb digital 12) (leb analog 12) (size .0) in
+    let most = bank-says digital analog refl (size .0) in
     record {
-      digital-most = leb-true digital 12 (most .0);
-      analog-most = leb-true analog 12 (most .1);
+      digital-most = most .0;
+      analog-most = most .1;
       size = eqb-true len (recordSize digital analog) (size .1);
     }
 

@@ -1,40 +1,32 @@
 -- One alarm's part of a scan record, checked: the reading before the command word.
-use Prim.Native.Nat.{ℕ, _+_, _/_, _%_}
-use mathlib.Core.List.{List}
-use mathlib.Core.Bool.{Bool, not, _&&_, cond}
-use lib.Dec.{leb, ltb, eqb}
+use Prim.Native.Nat.{ℕ, _+_}
+use mathlib.Core.List.{List, [], _∷_}
+use mathlib.Core.Bool.{Bool}
+use lib.Dec.{leb}
 use lib.ListN.{getD}
 use Rattle.wire.specs.Real.{realAt, bounded}
-use Rattle.wire.specs.Bits.{bit}
-use Rattle.settings.specs.Refusals.{notABit, badReal, unknownCommand}
+use Rattle.wire.specs.Bits.{setsOnly}
+use Rattle.settings.specs.Refusals.{notABit, badReal, unknownCommand, checked}
+use Rattle.settings.specs.declared.reply.Refusal.{Refusal}
 use Rattle.settings.specs.declared.types.Form.{Form}
 use Rattle.settings.specs.declared.types.Form.the-variants.{Digital, Analog}
-use Rattle.scan_record.specs.Part.{readingAt, wordAt}
+use Rattle.scan_record.specs.Part.{readingAt, wordAt, entrySize}
 use Rattle.scan_record.specs.declared.entry.Entry.{Entry}
 use Rattle.scan_record.specs.declared.entry.Entry.the-variants.{Read, Refused}
 
--- digital has the bits 0 to 12 and 25: 13 to 24 and those above 25 are clear
-abbrev pub digitalWord : ℕ → Bool
-digitalWord w = eqb (w / 8192 % 4096) 0 && ltb w 67108864
+-- the bits that a command word may set: digital 0 to 12 and 25, analog 0 to 25 without 1 and 8
+abbrev pub bitsOf : Form → List ℕ
+bitsOf Digital = 0 ∷ 1 ∷ 2 ∷ 3 ∷ 4 ∷ 5 ∷ 6 ∷ 7 ∷ 8 ∷ 9 ∷ 10 ∷ 11 ∷ 12 ∷ 25 ∷ []
+bitsOf Analog = 0 ∷ 2 ∷ 3 ∷ 4 ∷ 5 ∷ 6 ∷ 7 ∷ 9 ∷ 10 ∷ 11 ∷ 12 ∷ 13 ∷ 14 ∷ 15 ∷ 16 ∷ 17 ∷ 18 ∷ 19 ∷ 20 ∷ 21 ∷ 22 ∷ 23 ∷ 24 ∷ 25 ∷ []
 
--- analog has 0 to 25 without 1 and 8
-abbrev pub analogWord : ℕ → Bool
-analogWord w = not (bit w 1) && not (bit w 8) && ltb w 67108864
+-- a digital reading is a byte that is 0 or 1, an analog one a REAL within the bound
+abbrev pub readingCheck : Form → List ℕ → ℕ → ℕ → Refusal × Bool
+readingCheck Digital rec at alarm = (notABit alarm, leb (getD rec at 0) 1)
+readingCheck Analog rec at alarm = (badReal alarm, bounded (realAt rec at))
 
--- a byte that is 0 or 1, and the word
-unfoldable pub digitalEntry : List ℕ → ℕ → ℕ → Entry
-digitalEntry rec at alarm =
-    cond (leb (getD rec at 0) 1)
-    (cond (digitalWord (wordAt Digital rec at)) (Read (readingAt Digital rec at) (wordAt Digital rec at) (at + 5)) (Refused (unknownCommand alarm)))
-    (Refused (notABit alarm))
-
--- a REAL within the bound, and the word
-unfoldable pub analogEntry : List ℕ → ℕ → ℕ → Entry
-analogEntry rec at alarm =
-    cond (bounded (realAt rec at))
-    (cond (analogWord (wordAt Analog rec at)) (Read (readingAt Analog rec at) (wordAt Analog rec at) (at + 8)) (Refused (unknownCommand alarm)))
-    (Refused (badReal alarm))
-
-abbrev pub entryAt : Form → List ℕ → ℕ → ℕ → Entry
-entryAt Digital rec at alarm = digitalEntry rec at alarm
-entryAt Analog rec at alarm = analogEntry rec at alarm
+-- the reading, then the word's 32 bits
+unfoldable pub entryAt : Form → List ℕ → ℕ → ℕ → Entry
+entryAt form rec at alarm =
+    checked Refused
+    (readingCheck form rec at alarm ∷ (unknownCommand alarm, setsOnly (bitsOf form) 32 (wordAt form rec at)) ∷ [])
+    (Read (readingAt form rec at) (wordAt form rec at) (at + entrySize form))

@@ -15,18 +15,24 @@ abbrev pub timeOf : List ℕ → ℕ
 timeOf rec = number rec 0 8
 
 -- an alarm's part: a digital bit in one byte or a REAL in four, then the command word in four
+abbrev pub readingSize : Form → ℕ
+readingSize Digital = 1
+readingSize Analog = 4
+
+abbrev pub entrySize : Form → ℕ
+entrySize form = readingSize form + 4
+
 abbrev pub readingAt : Form → List ℕ → ℕ → Reading
 readingAt Digital rec at = Bit (eqb (getD rec at 0) 1)
 readingAt Analog rec at = Level (realAt rec at)
 
 abbrev pub wordAt : Form → List ℕ → ℕ → ℕ
-wordAt Digital rec at = number rec (at + 1) 4
-wordAt Analog rec at = number rec (at + 4) 4
+wordAt form rec at = number rec (at + readingSize form) 4
 
 -- where the part of the alarm at a place begins
 abbrev pub offsetOf : ℕ → ℕ → ℕ
-offsetOf digital place = 8 + 5 * min place digital + 8 * (place - digital)
+offsetOf digital place = 8 + entrySize Digital * min place digital + entrySize Analog * (place - digital)
 
 -- the length of a record
 abbrev pub recordSize : ℕ → ℕ → ℕ
-recordSize digital analog = 8 + 5 * digital + 8 * analog
+recordSize digital analog = 8 + entrySize Digital * digital + entrySize Analog * analog

@@ -1,6 +1,8 @@
 // The check of a whole scan record.
 ghost use mathlib.Core.Path.{_≡_};
 ghost use Prim.Native.Nat.{_+_, _≤_};
+ghost use mathlib.Core.Bool.{_&&_};
+ghost use lib.Dec.{leb};
 ghost use lib.ListN.{length};
 ghost use Rattle.scan_record.specs.Part.{recordSize};
 ghost use Rattle.settings.specs.Alarm.{formAt};
@@ -8,6 +10,9 @@ ghost use Rattle.scan_record.specs.Internal.Size.{lengthOf};
 ghost use Rattle.scan_record.specs.Check.{checkFrom, whole, checkRecord};
 use crate::entry::Entry;
 use crate::entry::entry_at;
+use crate::part::ANALOG_PART;
+use crate::part::DIGITAL_PART;
+use crate::part::TIME_SIZE;
 use settings::refusals::EARLIER_TIME;
 use settings::refusals::WRONG_LENGTH;
 use settings::reply::Refusal;
@@ -26,17 +31,21 @@ pub fn form_at(digital: usize, place: usize) -> Form
     }
 }
 
+// Whether so many alarms are a bank's: at most 12 of each kind.
+fn is_bank(digital: usize, analog: usize) -> bool
+    ensures { λ r. ⌜ r ≡ leb digital 12 && leb analog 12 ⌝ }
+{
+    (digital <= 12) & (analog <= 12)
+}
+
 // The length of the records of a bank with so many alarms.
 pub fn record_length(digital: usize, analog: usize) -> usize
     ensures { λ r. ⌜ (r ≡ lengthOf digital analog) × (8 ≤ r) ⌝ }
 {
-    if 12 < digital {
-        return 8;
+    if !is_bank(digital, analog) {
+        return TIME_SIZE;
     }
-    if 12 < analog {
-        return 8;
-    }
-    8 + 5 * digital + 8 * analog
+    TIME_SIZE + DIGITAL_PART * digital + ANALOG_PART * analog
 }
 
 // Checks each alarm in number order and answers the first refusal, of a record that has the right length.
@@ -46,7 +55,7 @@ fn check_alarms(bytes: &[u8], digital: usize, analog: usize) -> Reply
     ensures { λ r. ⌜ r ≡ checkFrom (now (bytes .entry)) digital (digital + analog) 0 8 ⌝ }
 {
     let mut place = 0;
-    let mut at = 8;
+    let mut at = TIME_SIZE;
     loop {
         if place == digital + analog {
             break Reply::Accepted;
@@ -61,17 +70,11 @@ fn check_alarms(bytes: &[u8], digital: usize, analog: usize) -> Reply
     }
 }
 
-// Whether so many alarms are a bank, and a record of `len` bytes is one of theirs.
+// Whether so many alarms are a bank's, and a record of `len` bytes is one of theirs.
 fn is_whole(digital: usize, analog: usize, len: usize) -> bool
     ensures { λ r. ⌜ r ≡ whole digital analog len ⌝ }
 {
-    if 12 < digital {
-        return false;
-    }
-    if 12 < analog {
-        return false;
-    }
-    len == 8 + 5 * digital + 8 * analog
+    is_bank(digital, analog) & (len == record_length(digital, analog))
 }
 
 // Checks a record against the number of alarms and the time of the last accepted scan.

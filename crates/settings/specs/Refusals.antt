@@ -1,5 +1,7 @@
 -- The refusals, as document 01's table has them: a name, a number, and what the place is.
 use Prim.Native.Nat.{ℕ}
+use mathlib.Core.Bool.{Bool, cond}
+use mathlib.Core.List.{List, [], _∷_}
 use Rattle.settings.specs.declared.reply.Refusal.{Refusal}
 
 abbrev pub refusal : ℕ → ℕ → Refusal
@@ -53,3 +55,8 @@ imageTooLong = refusal 13 0
 -- a report of an alarm that is not there
 abbrev pub noSuchAlarm : Refusal
 noSuchAlarm = refusal 14 0
+
+-- of checks in order, each a refusal and the test that spares it, the first that fails gives its refusal; what was read stands where all hold
+unfoldable pub checked : {A : Type 0} → (Refusal → A) → List (Refusal × Bool) → A → A
+checked refused [] read = read
+checked refused (c ∷ rest) read = cond (c .1) (checked refused rest read) (refused (c .0))

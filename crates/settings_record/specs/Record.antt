@@ -1,20 +1,22 @@
 -- An alarm's record: its fields by offset, and the first refusal that applies. Each refusal's place is the record's offset.
 use Prim.Native.Nat.{ℕ, _+_}
-use mathlib.Core.List.{List}
-use mathlib.Core.Bool.{cond}
+use mathlib.Core.List.{List, [], _∷_}
+use mathlib.Core.Bool.{Bool}
 use lib.Dec.{ltb, leb}
 use lib.ListN.{length, getD}
 use lib.Ieee.{Float}
 use Rattle.wire.specs.Number.{number}
 use Rattle.wire.specs.Real.{realAt}
-use Rattle.settings.specs.Refusals.{outOfRange, unknownFlag, wrongLimits, incomplete}
+use Rattle.settings.specs.Refusals.{outOfRange, unknownFlag, wrongLimits, incomplete, checked}
 use Rattle.settings.specs.Rules.{durationInRange, inRange, apart}
 use Rattle.settings.specs.declared.types.Limits.{Limits}
 use Rattle.settings.specs.declared.types.Severities.{Severities}
 use Rattle.settings.specs.declared.types.Alarm.{Alarm}
+use Rattle.settings.specs.declared.types.Kind.{Kind}
 use Rattle.settings.specs.declared.types.Kind.the-variants.{Digital, Analog}
 use Rattle.settings.specs.declared.types.Form.{Form}
 use Rattle.settings.specs.declared.types.Form.the-variants.{Digital as DigitalForm, Analog as AnalogForm}
+use Rattle.settings.specs.declared.reply.Refusal.{Refusal}
 use Rattle.settings_record.specs.declared.record.Record.{Record}
 use Rattle.settings_record.specs.declared.record.Record.the-variants.{Alarm as Read, Refused}
 
@@ -22,13 +24,6 @@ use Rattle.settings_record.specs.declared.record.Record.the-variants.{Al
 unfoldable pub digitalAlarm : List ℕ → ℕ → Alarm
 digitalAlarm image at =
     record { flags = getD image at 0; duration = number image (at + 5) 4; kind = Digital (number image (at + 1) 4) }
-
--- 3 a flag above bit 2, 4 MinDuration out of range
-unfoldable pub digitalRecord : List ℕ → ℕ → Record
-digitalRecord image at =
-    cond (ltb (getD image at 0) 8)
-    (cond (durationInRange (number image (at + 5) 4)) (Read (digitalAlarm image at) (at + 9)) (Refused (outOfRange at)))
-    (Refused (unknownFlag at))
 
 -- six severities in the order HH, H, L, LL, ROCPos, ROCNeg
 unfoldable pub severitiesAt : List ℕ → ℕ → Severities
@@ -51,27 +46,26 @@ analogAlarm image at =
       kind = Analog (limitsAt image (at + 25)) (severitiesAt image (at + 1)) (number image (at + 53) 4);
     }
 
--- 3 a flag above bit 4, 4 a number out of its range, 5 the order of levels or Deadband
-unfoldable pub analogRecord : List ℕ → ℕ → Record
-analogRecord image at =
-    cond (ltb (getD image at 0) 32)
-    (cond (inRange (limitsAt image (at + 25)) (number image (at + 53) 4) (number image (at + 57) 4))
-    (cond (apart (getD image at 0) (limitsAt image (at + 25)))
-    (Read (analogAlarm image at) (at + 61))
-    (Refused (wrongLimits at)))
-    (Refused (outOfRange at)))
-    (Refused (unknownFlag at))
-
 -- how many bytes a record has
 abbrev pub sizeOf : Form → ℕ
 sizeOf DigitalForm = 9
 sizeOf AnalogForm = 61
 
--- a record that is there whole
-abbrev pub wholeRecord : Form → List ℕ → ℕ → Record
-wholeRecord DigitalForm image at = digitalRecord image at
-wholeRecord AnalogForm image at = analogRecord image at
+-- the alarm that a record's fields are
+abbrev pub fieldsAt : Form → List ℕ → ℕ → Alarm
+fieldsAt DigitalForm image at = digitalAlarm image at
+fieldsAt AnalogForm image at = analogAlarm image at
 
--- 1 where it is incomplete, then its own checks
+-- 3 a flag above bit 2, or above bit 4 of an analog alarm; 4 a number out of its range; 5 the order of levels or Deadband
+abbrev pub checksOf : Kind → ℕ → ℕ → ℕ → List (Refusal × Bool)
+checksOf (Digital severity) flags duration at = (unknownFlag at, ltb flags 8) ∷ (outOfRange at, durationInRange duration) ∷ []
+checksOf (Analog g severities period) flags duration at =
+    (unknownFlag at, ltb flags 32) ∷ (outOfRange at, inRange g period duration) ∷ (wrongLimits at, apart flags g) ∷ []
+
+-- 1 where the record is incomplete, then the checks of its alarm
 unfoldable pub recordAt : Form → List ℕ → ℕ → Record
-recordAt form image at = cond (leb (at + sizeOf form) (length image)) (wholeRecord form image at) (Refused (incomplete at))
+recordAt form image at =
+    let a = fieldsAt form image at in
+    checked Refused
+    ((incomplete at, leb (at + sizeOf form) (length image)) ∷ checksOf (a .kind) (a .flags) (a .duration) at)
+    (Read a (at + sizeOf form))

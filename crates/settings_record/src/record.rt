@@ -3,7 +3,8 @@ ghost use mathlib.Core.Path.{_≡_};
 ghost use Prim.Native.Nat.{_+_, _≤_};
 ghost use lib.ListN.{length};
 ghost use Rattle.settings.specs.Refusals.{refusal};
-ghost use Rattle.settings_record.specs.Record.{limitsAt, severitiesAt, digitalRecord, analogRecord, sizeOf, recordAt};
+ghost use Rattle.settings_record.specs.Record.{limitsAt, severitiesAt, sizeOf, recordAt};
+ghost use Rattle.settings_record.specs.Internal.Whole.{wholeRecord};
 use settings::refusals::INCOMPLETE;
 use settings::refusals::OUT_OF_RANGE;
 use settings::refusals::UNKNOWN_FLAG;
@@ -64,7 +65,7 @@ fn limits_at(image: &[u8], at: usize) -> Limits
 // The checks of a digital record that is there whole.
 fn digital_record(image: &[u8], at: usize) -> Record
     requires { ⌜ at + 9 ≤ length (now image) ⌝ }
-    ensures { λ r. ⌜ r ≡ digitalRecord (now (image .entry)) at ⌝ }
+    ensures { λ r. ⌜ r ≡ wholeRecord Form.Digital (now (image .entry)) at ⌝ }
 {
     let flags = image[at];
     let severity = get_u32(image, at + 1);
@@ -89,7 +90,7 @@ fn digital_record(image: &[u8], at: usize) -> Record
 // The checks of an analog record that is there whole.
 fn analog_record(image: &[u8], at: usize) -> Record
     requires { ⌜ at + 61 ≤ length (now image) ⌝ }
-    ensures { λ r. ⌜ r ≡ analogRecord (now (image .entry)) at ⌝ }
+    ensures { λ r. ⌜ r ≡ wholeRecord Form.Analog (now (image .entry)) at ⌝ }
 {
     let flags = image[at];
     let severities = severities_at(image, at + 1);

@@ -2,4 +2,5 @@ pub mod Laws
 pub mod Reals
 pub mod WordLaws
 pub mod MaskLaws
+pub mod Masks
 mod Examples

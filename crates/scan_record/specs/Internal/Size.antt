@@ -2,14 +2,8 @@
 use Prim.Native.Nat.{ℕ}
 use mathlib.Core.Bool.{_&&_, cond}
 use lib.Dec.{leb}
-use Rattle.settings.specs.declared.types.Form.{Form}
-use Rattle.settings.specs.declared.types.Form.the-variants.{Digital, Analog}
 use Rattle.scan_record.specs.Part.{recordSize}
-
--- how many bytes an alarm's part has
-abbrev pub entrySize : Form → ℕ
-entrySize Digital = 5
-entrySize Analog = 8
+pub use Rattle.scan_record.specs.Part.{entrySize}
 
 -- the length of a bank's records. (A bank with counts over 12, which no call hands back, has none; each 8 bytes are refused then)
 unfoldable pub lengthOf : ℕ → ℕ → ℕ

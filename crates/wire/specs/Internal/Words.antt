@@ -1,5 +1,5 @@
 -- Words made of bits, and bytes made of words.
-use Prim.Native.Nat.{ℕ, _+_, _*_}
+use Prim.Native.Nat.{ℕ, zero, suc, _+_, _*_}
 use mathlib.Core.Bool.{Bool, false, cond}
 use mathlib.Core.List.{List, [], _∷_, _++_}
 use lib.Ieee.{Float, binary32, toBits}
@@ -9,6 +9,11 @@ use Rattle.wire.specs.Number.{bytes}
 unfoldable pub wordOf : List Bool → ℕ
 wordOf [] = 0
 wordOf (b ∷ bs) = cond b 1 0 + 2 * wordOf bs
+
+-- the word that has, of the lowest n bits, those that f says
+unfoldable pub maskOf : ℕ → (ℕ → Bool) → ℕ
+maskOf zero f = 0
+maskOf (suc n) f = maskOf n (λ k. f (suc k)) * 2 + cond (f 0) 1 0
 
 -- a bit for each condition, at every third place
 unfoldable pub spread : List Bool → List Bool

@@ -5,8 +5,7 @@ use Prim.Native.Nat.{ℕ, _+_, _-_, _≤_}
 use native.Mathlib.Nat.{sub-zero}
 use native.Mathlib.Omega.{arith}
 use denote.Ref.{now}
-use Rattle.scan_record.specs.Internal.Size.{entrySize}
-use Rattle.scan_record.specs.Part.{offsetOf}
+use Rattle.scan_record.specs.Part.{entrySize, offsetOf}
 use Rattle.settings.specs.Alarm.{formAt}
 use Rattle.scan_record.specs.Check.{checkFrom}
 use Rattle.scan_record.proofs.Entries.{entry-past, offset-next, check-next, check-stop, check-end}

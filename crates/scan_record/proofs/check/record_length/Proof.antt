@@ -1,23 +1,51 @@
--- `scan_record::check::record_length` meets its contract: each return takes the case that its tests led to. Assumes nothing.
+-- `scan_record::check::record_length` meets its contract: each return takes the case that its test led to. Assumes nothing.
 use borrow.Author.Needs.{needs}
-use borrow.Author.Tests.{le-leb, lt-leb}
+use borrow.Author.Tests.{not-true, not-false}
+use native.Mathlib.Omega.{arith}
 use Rattle.scan_record.specs.Internal.Size.{lengthOf}
+use Rattle.scan_record.proofs.Entries.{bank-says}
 use Rattle.scan_record.proofs.check.record_length.Statement.{statement}
 use Rattle.scan_record.proofs.check.record_length.Tie as tie
 
 returns : tie.Need-returns
 unfolding lengthOf
-returns c = (simp (lt-leb _ _ (c .if1 .taken)), search needs)
+returns c = (simp (← c .before .is-bank .ensures, not-true (c .before .is-bank .result) (c .if1 .taken)), search needs)
+
+mul-result : tie.Need-mul-result
+mul-result c =
+    let b = c .before in
+    let a = b .before .args in
+    let most = bank-says (a .digital) (a .analog) (b .is-bank .ensures) (not-false (b .is-bank .result) (c .if1 .left)) in
+    omega arith
+
+add-result : tie.Need-add-result
+add-result c =
+    let b = c .before in
+    let a = b .before .args in
+    let most = bank-says (a .digital) (a .analog) (b .is-bank .ensures) (not-false (b .is-bank .result) (c .if1 .left)) in
+    omega arith
+
+mul-result-2 : tie.Need-mul-result-2
+mul-result-2 c =
+    let b = c .before in
+    let a = b .before .args in
+    let most = bank-says (a .digital) (a .analog) (b .is-bank .ensures) (not-false (b .is-bank .result) (c .if1 .left)) in
+    omega arith
+
+add-result-2 : tie.Need-add-result-2
+add-result-2 c =
+    let b = c .before in
+    let a = b .before .args in
+    let most = bank-says (a .digital) (a .analog) (b .is-bank .ensures) (not-false (b .is-bank .result) (c .if1 .left)) in
+    omega arith
 
 returns-2 : tie.Need-returns-2
 unfolding lengthOf
-returns-2 c = (simp (le-leb _ _ (c .before .if1 .left), lt-leb _ _ (c .if2 .taken)), search needs)
-
-returns-3 : tie.Need-returns-3
-unfolding lengthOf
-returns-3 c = (simp (le-leb _ _ (c .before .if1 .left), le-leb _ _ (c .if2 .left)), search needs)
+returns-2 c =
+    let b = c .before .is-bank in
+    (simp (← b .ensures, not-false (b .result) (c .if1 .left)), search needs)
 
 pub record-length-spec : {M : Type 1} → statement M
 record-length-spec =
     tie.close
-    (tie.spec returns returns-2 (λ c. search needs) (λ c. search needs) (λ c. search needs) (λ c. search needs) returns-3)
+    (tie.spec (λ c κs. search needs) returns mul-result add-result mul-result-2 add-result-2 returns-2)

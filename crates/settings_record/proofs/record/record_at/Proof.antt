@@ -1,6 +1,5 @@
 -- `settings_record::record::record_at` meets its contract: a record that is there whole is read as its form says. Assumes nothing.
 use borrow.Author.Needs.{needs}
-use Rattle.settings_record.specs.Record.{sizeOf}
 use mathlib.Core.Bool.{true}
 use lib.Dec.{leb}
 use denote.Ref.{now}
@@ -9,15 +8,17 @@ use Prim.Native.Nat.{_+_}
 use native.Mathlib.Omega.{arith}
 use mathlib.Core.Path.{_≡_, sym, ap, _∙_}
 use borrow.Author.Tests.{le-leb, leb-true, not-true, not-false}
-use Rattle.settings_record.specs.Record.{recordAt}
-use mathlib.Core.Path.{sym, _∙_}
-use borrow.Author.Tests.{leb-true, not-true, not-false}
+use Rattle.settings_record.specs.Record.{sizeOf, recordAt}
+use Rattle.settings.specs.Refusals.{checked}
 use Rattle.settings_record.proofs.record.record_at.Statement.{statement}
 use Rattle.settings_record.proofs.record.record_at.Tie as tie
 
 returns : tie.Need-returns
-unfolding recordAt
-returns c = c .refuse .ensures ∙ simp (← c .before .before .before .record-size .ensures, ← c .before .before .has .ensures, not-true (c .before .before .has .result) (c .before .if1 .taken))
+unfolding recordAt checked
+returns c =
+    let has = c .before .before in
+    c .refuse .ensures
+    ∙ simp (← has .before .record-size .ensures, ← has .has .ensures, not-true (has .has .result) (c .before .if1 .taken))
 
 digital-record-requires : tie.Need-digital-record-requires
 digital-record-requires c κs =
@@ -42,12 +43,14 @@ analog-record-requires c κs =
     omega (arith, leb-true (a .at + size .result) (length (now (a .image))) h)
 
 returns-2 : tie.Need-returns-2
-unfolding recordAt
-returns-2 c = simp (c .before .enum-told .given .1, le-leb _ _ (digital-record-requires (c .before) (c .digital-record .lifetimes)), ← c .digital-record .ensures)
+unfolding recordAt checked
+returns-2 c =
+    simp (c .before .enum-told .given .1, le-leb _ _ (digital-record-requires (c .before) (c .digital-record .lifetimes)), ← c .digital-record .ensures)
 
 returns-3 : tie.Need-returns-3
-unfolding recordAt
-returns-3 c = simp (c .before .enum-told2 .given .1, le-leb _ _ (analog-record-requires (c .before) (c .analog-record .lifetimes)), ← c .analog-record .ensures)
+unfolding recordAt checked
+returns-3 c =
+    simp (c .before .enum-told2 .given .1, le-leb _ _ (analog-record-requires (c .before) (c .analog-record .lifetimes)), ← c .analog-record .ensures)
 
 pub record-at-spec : {M : Type 1} → statement M
 record-at-spec =

@@ -1,20 +1,16 @@
--- What is true of accepted settings and the image that they came from.
+-- What is true of accepted settings, whatever image they came from.
 use Prim.Native.Nat.{ℕ, _+_, _<_, _≤_}
 use mathlib.Core.Path.{_≡_}
-use mathlib.Core.List.{List}
 use lib.ListN.{length, getD}
 use Rattle.settings.specs.Alarm.{blank}
 use Rattle.settings.specs.Internal.Sound.{SoundAlarm}
 use Rattle.settings.specs.declared.types.Settings.{Settings}
 use Rattle.settings.specs.declared.types.Form.the-variants.{Digital as DigitalForm, Analog as AnalogForm}
-use Rattle.image.specs.Internal.Write.{imageOf, sizeOfImage}
 
--- at most 12 alarms of each kind, each sound, from an image of 2 + 9d + 61a bytes, which is their image
-pub record AcceptedFrom (image : List ℕ) (s : Settings) : Type 0 where
+-- at most 12 alarms of each kind, each sound
+pub record SoundSettings (s : Settings) : Type 0 where
   pub digital-most : s .digital ≤ 12
   pub analog-most : s .analog ≤ 12
   pub long : length (s .alarms) ≡ 24
-  pub size : length image ≡ sizeOfImage (s .digital) (s .analog)
   pub digital-sound : (i : ℕ) → i < s .digital → SoundAlarm DigitalForm (getD (s .alarms) i blank)
   pub analog-sound : (i : ℕ) → s .digital ≤ i → i < s .digital + s .analog → SoundAlarm AnalogForm (getD (s .alarms) i blank)
-  pub back : imageOf s ≡ image
