@@ -14,17 +14,19 @@ use Rattle.layout.specs.Internal.Block.{isBlock}
 use Rattle.image.specs.Internal.Write.{writtenOf, imageBuffer, writeOf, writeBuffer}
 use Rattle.report.specs.Internal.Report.{reportOf, reportIn}
 use Rattle.bank.specs.Internal.Bank.{Bank, loadOf}
-use Rattle.bank.specs.Internal.Scan.{Scanned, ifAccepted, checkOf, eventsIn, bankAfter, tooShort, refusedScan, checkedScan, scanOf, eventBuffer}
+use Rattle.scan.specs.Internal.Scan.{Scanned, ifAccepted, checkOf, eventsIn, bankAfter, tooShort, refusedScan, checkedScan, scanOf, eventBuffer}
 use Rattle.bank.specs.Lent.{Words}
-use Rattle.bank.specs.Internal.Words.{fitOf, bankIn, wordsAfter, answerOf, scannedWords, bufferOf}
+use Rattle.bank.specs.Internal.Words.{fitOf, bankIn}
+use Rattle.sweep.specs.Internal.Sweep.{wordsAfter}
+use Rattle.scan.specs.Internal.Words.{answerOf, scannedWords, bufferOf}
 use Rattle.bank.specs.Internal.Load.{loadedWords}
-use Rattle.bank.specs.declared.answer.Answer.{Answer}
-use Rattle.bank.specs.declared.answer.Answer.the-variants.{Events, Refused}
-use Rattle.bank.proofs.Bridge.{bank-after}
-use Rattle.bank.proofs.Fits.{stays-fit}
+use Rattle.scan.specs.declared.answer.Answer.{Answer}
+use Rattle.scan.specs.declared.answer.Answer.the-variants.{Events, Refused}
+use Rattle.scan.proofs.Bridge.{bank-after}
+use Rattle.scan.proofs.Fits.{stays-fit}
 use Rattle.bank.proofs.Loads.{loaded-bank, loaded-fits}
 use Rattle.bank.proofs.Places.{fit-says}
-use Rattle.bank.proofs.Scans.{refused-scan, accepted-scan}
+use Rattle.scan.proofs.Scans.{refused-scan, accepted-scan}
 use Rattle.bank_history.specs.Calls.{Call, after}
 use Rattle.bank_history.proofs.Lists.{bankAfterAll}
 

@@ -26,9 +26,10 @@ use Rattle.scan_record.specs.Check.{checkRecord}
 use Rattle.settings.specs.declared.reply.Reply.the-variants.{Accepted}
 use Rattle.alarm_history.specs.Facts.{facts}
 use Rattle.bank.specs.Internal.Bank.{Bank, freshBank, loadOf}
-use Rattle.bank.specs.Internal.Scan.{alarmsOf, scanOf, eventBuffer}
+use Rattle.scan.specs.Internal.Scan.{alarmsOf, scanOf, eventBuffer}
 use Rattle.bank.specs.Lent.{Words}
-use Rattle.bank.specs.Internal.Words.{fitOf, bankIn, answerOf}
+use Rattle.bank.specs.Internal.Words.{fitOf, bankIn}
+use Rattle.scan.specs.Internal.Words.{answerOf}
 use Rattle.report.specs.Empty.{noStatus, noStatuses, noReport}
 use Rattle.report.specs.Internal.Report.{isThere, reportAt, reportOf, reportIn}
 use Rattle.report.specs.declared.status.Status.{Status}

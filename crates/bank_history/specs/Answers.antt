@@ -15,8 +15,8 @@ use Rattle.scan_record.specs.Part.{timeOf, readingAt, wordAt, offsetOf}
 use Rattle.scan_record.specs.Check.{checkRecord}
 use Rattle.alarm_history.specs.Scans.{Scan}
 use Rattle.alarm_history.specs.Events.{alarmLog}
-use Rattle.bank.specs.declared.answer.Answer.{Answer}
-use Rattle.bank.specs.declared.answer.Answer.the-variants.{Events, Refused}
+use Rattle.scan.specs.declared.answer.Answer.{Answer}
+use Rattle.scan.specs.declared.answer.Answer.the-variants.{Events, Refused}
 use Rattle.bank_history.specs.Calls.{Call}
 
 -- the alarm at a place, from 0, and the scans that the records are to it

@@ -17,7 +17,7 @@ use Rattle.image.specs.declared.write.Written.the-variants.{Length, Refused}
 use Rattle.scan_record.specs.Check.{checkRecord}
 use Rattle.alarm_history.specs.Facts.{facts}
 use Rattle.bank.specs.Lent.{Words}
-use Rattle.bank.specs.Internal.Words.{answerOf, bufferOf}
+use Rattle.scan.specs.Internal.Words.{answerOf, bufferOf}
 use Rattle.bank.specs.Internal.Load.{loadedWords}
 use Rattle.report.specs.Empty.{noStatus}
 use Rattle.report.specs.Internal.Report.{reportIn}
