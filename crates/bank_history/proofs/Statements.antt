@@ -153,7 +153,7 @@ module _ (image : List ℕ) (calls : List Call) (good : Good image) where
   replies : Replies image calls
   replies =
       record {
-        accepting = λ c. ap isAccepted (lent-answer (c .bytes) (length (c .buffer)));
+        accepting = λ rec room. ap isAccepted (lent-answer rec room);
         answer = lent-answer;
         buffer = λ rec out. buffer-on w fits rec out ∙ ap (λ (x : Bank). eventBuffer x rec out) stands ∙ event-bytes-said rec out;
         suffices = λ rec room ok h. ap isAccepted (to-bank rec room) ∙ suffices rec room ok h;

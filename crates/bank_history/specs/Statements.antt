@@ -44,7 +44,7 @@ module _ (image : List ℕ) (calls : List Call) where
   -- what one more call then gives
   pub record Replies : Type 0 where
     -- a scan: it is not refused exactly where none of 7 to 12 applies
-    pub accepting : (c : Call) → isAccepted (answerOf words (c .bytes) (length (c .buffer))) ≡ accepts (settings image) records c
+    pub accepting : (rec : List ℕ) (room : ℕ) → isAccepted (answerOf words rec room) ≡ accepts (settings image) records rec room
     -- its answer, and every byte of its event buffer
     pub answer : (rec : List ℕ) (room : ℕ) → answerOf words rec room ≡ answerTo (settings image) records rec room
     pub buffer : (rec out : List ℕ) → bufferOf words rec out ≡ bufferAfter (settings image) records rec out
