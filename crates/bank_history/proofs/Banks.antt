@@ -38,11 +38,11 @@ use Rattle.scan_record.specs.declared.entry.Entry.{Entry}
 use Rattle.scan_record.proofs.Entries.{PartRead, all-read, accepted-says}
 use Rattle.marks.specs.Internal.Marks.{marksAt, turnAt}
 use Rattle.marks.proofs.Reading.{marks-length, mark-read, reset-read}
-use Rattle.bank.specs.Internal.Plan.{stepEntry, stepPart, stepAt, planOf}
+use Rattle.scan.specs.Internal.Plan.{stepEntry, stepPart, stepAt, planOf}
 use Rattle.bank.proofs.Places.{length-placed, placed-below}
-use Rattle.bank.proofs.Plans.{word-at}
+use Rattle.scan.proofs.Plans.{word-at}
 use Rattle.bank.specs.Internal.Bank.{Bank, freshBank}
-use Rattle.bank.specs.Internal.Scan.{checkOf, alarmsOf, planFor, bankAfter}
+use Rattle.scan.specs.Internal.Scan.{checkOf, alarmsOf, planFor, bankAfter}
 use Rattle.bank_history.specs.Answers.{alarmAt, scanAt, scansAt, lastAccepted}
 use Rattle.bank_history.proofs.Views.{DigitalView, digital-view, AnalogView, analog-view}
 

@@ -27,11 +27,11 @@ use Rattle.settings.specs.Alarm.{formAt}
 use Rattle.scan_record.specs.Entry.{entryAt}
 use Rattle.scan_record.specs.declared.entry.Entry.{Entry}
 use Rattle.scan_record.specs.declared.entry.Entry.the-variants.{Read, Refused}
-use Rattle.bank.specs.Internal.Plan.{stepEntry, stepPart, stepAt, countOf}
-use Rattle.bank.proofs.Plans.{word-at, word-small, up-to-count}
-use Rattle.bank.specs.Internal.Scan.{Scanned, checkOf, alarmsOf, planFor, eventsIn, checkedScan, scanOf}
+use Rattle.scan.specs.Internal.Plan.{stepEntry, stepPart, stepAt, countOf}
+use Rattle.scan.proofs.Plans.{word-at, word-small, up-to-count}
+use Rattle.scan.specs.Internal.Scan.{Scanned, checkOf, alarmsOf, planFor, eventsIn, checkedScan, scanOf}
 use Rattle.bank.specs.Internal.Bank.{Bank}
-use Rattle.bank.proofs.Scans.{accepted-scan}
+use Rattle.scan.proofs.Scans.{accepted-scan}
 use Rattle.bank_history.specs.Answers.{alarmAt, isAccepted}
 use Rattle.bank_history.proofs.Banks.{Kept, stateAt, digital-kind}
 

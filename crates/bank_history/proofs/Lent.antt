@@ -14,19 +14,21 @@ use Rattle.layout.specs.Internal.Block.{isBlock}
 use Rattle.image.specs.Internal.Write.{writtenOf, imageBuffer, writeOf, writeBuffer}
 use Rattle.report.specs.Internal.Report.{reportOf, reportIn}
 use Rattle.bank.specs.Internal.Bank.{Bank, loadOf}
-use Rattle.bank.specs.Internal.Scan.{Scanned, ifAccepted, checkOf, eventsIn, bankAfter, tooShort, refusedScan, checkedScan, scanOf, eventBuffer}
+use Rattle.scan.specs.Internal.Scan.{Scanned, ifAccepted, checkOf, eventsIn, bankAfter, tooShort, refusedScan, checkedScan, scanOf, eventBuffer}
 use Rattle.bank.specs.Lent.{Words}
-use Rattle.bank.specs.Internal.Words.{fitOf, bankIn, wordsAfter, answerOf, scannedWords, bufferOf}
+use Rattle.bank.specs.Internal.Words.{fitOf, bankIn}
+use Rattle.sweep.specs.Internal.Sweep.{wordsAfter}
+use Rattle.scan.specs.Internal.Words.{answerOf, scannedWords, bufferOf}
 use Rattle.bank.specs.Internal.Load.{loadedWords}
-use Rattle.bank.specs.declared.answer.Answer.{Answer}
-use Rattle.bank.specs.declared.answer.Answer.the-variants.{Events, Refused}
-use Rattle.bank.proofs.Bridge.{bank-after}
-use Rattle.bank.proofs.Fits.{stays-fit}
+use Rattle.scan.specs.declared.answer.Answer.{Answer}
+use Rattle.scan.specs.declared.answer.Answer.the-variants.{Events, Refused}
+use Rattle.scan.proofs.Bridge.{bank-after}
+use Rattle.scan.proofs.Fits.{stays-fit}
 use Rattle.bank.proofs.Loads.{loaded-bank, loaded-fits}
 use Rattle.bank.proofs.Places.{fit-says}
-use Rattle.bank.proofs.Scans.{refused-scan, accepted-scan}
-use Rattle.bank_history.specs.Calls.{Call, after}
-use Rattle.bank_history.proofs.Lists.{bankAfterAll}
+use Rattle.scan.proofs.Scans.{refused-scan, accepted-scan}
+use Rattle.bank_history.specs.Calls.{Call, scan, afterCall, after}
+use Rattle.bank_history.proofs.Lists.{bankThen, bankAfterAll}
 
 -- the settings block of a bank's words
 block : (w : Words) → fitOf w ≡ Accepted → isBlock (w .settings) ≡ true
@@ -81,13 +83,16 @@ module _ (w : Words) (fits : fitOf w ≡ Accepted) where
 
 -- ---- a list of calls
 
-pub lent-all : (calls : List Call) (w : Words) (b : Bank) → fitOf w ≡ Accepted → bankIn w ≡ b → (fitOf (after w calls) ≡ Accepted) × (bankIn (after w calls) ≡ bankAfterAll b calls)
+call-on : (w : Words) (fits : fitOf w ≡ Accepted) (c : Call) → (fitOf (afterCall w c) ≡ Accepted) × (bankIn (afterCall w c) ≡ bankThen (bankIn w) c)
+call-on w fits (scan rec out) = (stays-fit w rec (length out) ∙ fits, bank-on w fits rec (length out))
+
+pub lent-all : (calls : List Call) (w : Words) (b : Bank) → fitOf w ≡ Accepted → bankIn w ≡ b
+    → (fitOf (after w calls) ≡ Accepted) × (bankIn (after w calls) ≡ bankAfterAll b calls)
 unfolding after bankAfterAll
 lent-all [] w b fits e = (fits, e)
 lent-all (c ∷ calls) w b fits e =
-    let next : Words = scannedWords w (c .bytes) (length (c .buffer)) in
-    lent-all calls next (scanOf b (c .bytes) (length (c .buffer)) .bank) (stays-fit w (c .bytes) (length (c .buffer)) ∙ fits)
-    (bank-on w fits (c .bytes) (length (c .buffer)) ∙ ap (λ (x : Bank). scanOf x (c .bytes) (length (c .buffer)) .bank) e)
+    let next = call-on w fits c in
+    lent-all calls (afterCall w c) (bankThen b c) (next .0) (next .1 ∙ ap (λ (x : Bank). bankThen x c) e)
 
 -- from a loaded image on
 pub lent-bank : (image : List ℕ) (calls : List Call) → T (areBytes image)

@@ -24,9 +24,10 @@ use Rattle.alarm_history.proofs.Digital.{digital-required, digital-run}
 use Rattle.alarm_history.proofs.Analog.{analog-required, analog-run}
 use Rattle.alarm_history.proofs.Events.{digital-log-is, analog-log-is}
 use Rattle.scan_record.specs.Part.{timeOf}
-use Rattle.bank.specs.Internal.Plan.{alarmEvents, eventsUpTo}
-use Rattle.bank.proofs.Plans.{digital-log, analog-log}
-use Rattle.bank.specs.Internal.Scan.{checkOf, alarmsOf, planFor, eventsIn}
+use Rattle.sweep.specs.Internal.Sweep.{alarmEvents}
+use Rattle.scan.specs.Internal.Plan.{eventsUpTo}
+use Rattle.sweep.proofs.Stepped.{digital-log, analog-log}
+use Rattle.scan.specs.Internal.Scan.{checkOf, alarmsOf, planFor, eventsIn}
 use Rattle.bank.specs.Internal.Bank.{Bank}
 use Rattle.bank_history.specs.Answers.{alarmAt, scanAt, scansAt, scanLog, logOf}
 use Rattle.bank_history.proofs.Banks.{Kept, stateAt, digital-of, analog-of, digital-stepped, analog-stepped, word-after, next-kept}

@@ -35,7 +35,7 @@ use Rattle.alarm_history.specs.Internal.After.{elapsed, keptIn, digitalRun, dig
 use Rattle.alarm_history.proofs.Marks.{clear, elapsed-is, reset-stamp}
 use Rattle.alarm_history.proofs.Digital.{digital-required, run-own, digital-run, digital-report}
 use Rattle.alarm_history.proofs.Analog.{six, analog-required, analog-run, analog-report}
-use Rattle.bank.specs.Internal.Scan.{alarmsOf}
+use Rattle.scan.specs.Internal.Scan.{alarmsOf}
 use Rattle.bank.specs.Internal.Bank.{Bank}
 use Rattle.report.specs.Empty.{noStatus, noStatuses}
 use Rattle.report.specs.Internal.Status.{digitalStatuses, analogStatuses, statusesOf}

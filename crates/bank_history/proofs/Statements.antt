@@ -27,9 +27,10 @@ use Rattle.scan_record.specs.Check.{checkRecord}
 use Rattle.settings.specs.declared.reply.Reply.the-variants.{Accepted}
 use Rattle.alarm_history.specs.Facts.{rulesOf, facts}
 use Rattle.bank.specs.Internal.Bank.{Bank, freshBank, loadOf}
-use Rattle.bank.specs.Internal.Scan.{alarmsOf, scanOf, eventBuffer}
+use Rattle.scan.specs.Internal.Scan.{alarmsOf, scanOf, eventBuffer}
 use Rattle.bank.specs.Lent.{Words}
-use Rattle.bank.specs.Internal.Words.{fitOf, bankIn, answerOf}
+use Rattle.bank.specs.Internal.Words.{fitOf, bankIn}
+use Rattle.scan.specs.Internal.Words.{answerOf}
 use Rattle.report.specs.Empty.{noStatus, noStatuses, noReport}
 use Rattle.report.specs.Internal.Report.{isThere, reportAt, reportOf, reportIn}
 use Rattle.report.specs.declared.status.Status.{Status}
@@ -153,7 +154,7 @@ module _ (image : List ℕ) (calls : List Call) (good : Good image) where
   replies : Replies image calls
   replies =
       record {
-        accepting = λ c. ap isAccepted (lent-answer (c .bytes) (length (c .buffer)));
+        accepting = λ rec room. ap isAccepted (lent-answer rec room);
         answer = lent-answer;
         buffer = λ rec out. buffer-on w fits rec out ∙ ap (λ (x : Bank). eventBuffer x rec out) stands ∙ event-bytes-said rec out;
         suffices = λ rec room ok h. ap isAccepted (to-bank rec room) ∙ suffices rec room ok h;

@@ -7,6 +7,7 @@ use lib.ListN.{length, getD, drop}
 use Rattle.settings.specs.Alarm.{blank, formAt}
 use Rattle.settings.specs.Refusals.{eventsTooLong}
 use Rattle.settings.specs.declared.types.Alarm.{Alarm}
+use Rattle.settings.specs.declared.types.Form.{Form}
 use Rattle.settings.specs.declared.types.Settings.{Settings}
 use Rattle.settings.specs.declared.reply.Reply.{Reply}
 use Rattle.settings.specs.declared.reply.Reply.the-variants.{Accepted, Refused as RefusedBy}
@@ -15,21 +16,19 @@ use Rattle.scan_record.specs.Part.{timeOf, readingAt, wordAt, offsetOf}
 use Rattle.scan_record.specs.Check.{checkRecord}
 use Rattle.alarm_history.specs.Scans.{Scan}
 use Rattle.alarm_history.specs.Events.{alarmLog}
-use Rattle.bank.specs.declared.answer.Answer.{Answer}
-use Rattle.bank.specs.declared.answer.Answer.the-variants.{Events, Refused}
-use Rattle.bank_history.specs.Calls.{Call}
+use Rattle.scan.specs.declared.answer.Answer.{Answer}
+use Rattle.scan.specs.declared.answer.Answer.the-variants.{Events, Refused}
+use Rattle.bank_history.specs.Calls.{Call, scan}
 
--- the alarm at a place, from 0, and the scans that the records are to it
+-- the alarm at a place, from 0, and the scans that the records are to it, each by its part
 abbrev pub alarmAt : Settings → ℕ → Alarm
 alarmAt s place = getD (s .alarms) place blank
 
+abbrev pub partAt : Form → List ℕ → ℕ → Scan
+partAt form rec at = record { time = timeOf rec; reading = readingAt form rec at; word = wordAt form rec at }
+
 abbrev pub scanAt : Settings → ℕ → List ℕ → Scan
-scanAt s place rec =
-    record {
-      time = timeOf rec;
-      reading = readingAt (formAt (s .digital) place) rec (offsetOf (s .digital) place);
-      word = wordAt (formAt (s .digital) place) rec (offsetOf (s .digital) place);
-    }
+scanAt s place rec = partAt (formAt (s .digital) place) rec (offsetOf (s .digital) place)
 
 abbrev pub scansAt : Settings → ℕ → List (List ℕ) → List Scan
 scansAt s place records = map (scanAt s place) records
@@ -64,15 +63,19 @@ logged (Refused r) log out = out
 abbrev pub bufferAfter : Settings → List (List ℕ) → List ℕ → List ℕ → List ℕ
 bufferAfter s past rec out = logged (answerTo s past rec (length out)) (logBytes (logOf s rec past)) out
 
--- a call is accepted where none of its refusals applies
+-- a scan is accepted where none of its refusals applies
 abbrev pub isAccepted : Answer → Bool
 isAccepted (Events n) = true
 isAccepted (Refused r) = false
 
-abbrev pub accepts : Settings → List (List ℕ) → Call → Bool
-accepts s past c = isAccepted (answerTo s past (c .bytes) (length (c .buffer)))
+abbrev pub accepts : Settings → List (List ℕ) → List ℕ → ℕ → Bool
+accepts s past rec room = isAccepted (answerTo s past rec room)
 
--- the records of the accepted calls, in front of those before them
+-- the records after a call: that of an accepted scan in front of those before it
+abbrev pub recordsAfter : Settings → List (List ℕ) → Call → List (List ℕ)
+recordsAfter s past (scan rec out) = cond (accepts s past rec (length out)) (rec ∷ past) past
+
+-- the records after a list of calls
 unfoldable pub accepted : Settings → List Call → List (List ℕ) → List (List ℕ)
 accepted s [] past = past
-accepted s (c ∷ calls) past = accepted s calls (cond (accepts s past c) (c .bytes ∷ past) past)
+accepted s (c ∷ calls) past = accepted s calls (recordsAfter s past c)

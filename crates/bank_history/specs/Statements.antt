@@ -17,7 +17,7 @@ use Rattle.image.specs.declared.write.Written.the-variants.{Length, Refused}
 use Rattle.scan_record.specs.Check.{checkRecord}
 use Rattle.alarm_history.specs.Facts.{rulesOf, facts}
 use Rattle.bank.specs.Lent.{Words}
-use Rattle.bank.specs.Internal.Words.{answerOf, bufferOf}
+use Rattle.scan.specs.Internal.Words.{answerOf, bufferOf}
 use Rattle.bank.specs.Internal.Load.{loadedWords}
 use Rattle.report.specs.Empty.{noStatus}
 use Rattle.report.specs.Internal.Report.{reportIn}
@@ -44,7 +44,7 @@ module _ (image : List ℕ) (calls : List Call) where
   -- what one more call then gives
   pub record Replies : Type 0 where
     -- a scan: it is not refused exactly where none of 7 to 12 applies
-    pub accepting : (c : Call) → isAccepted (answerOf words (c .bytes) (length (c .buffer))) ≡ accepts (settings image) records c
+    pub accepting : (rec : List ℕ) (room : ℕ) → isAccepted (answerOf words rec room) ≡ accepts (settings image) records rec room
     -- its answer, and every byte of its event buffer
     pub answer : (rec : List ℕ) (room : ℕ) → answerOf words rec room ≡ answerTo (settings image) records rec room
     pub buffer : (rec out : List ℕ) → bufferOf words rec out ≡ bufferAfter (settings image) records rec out

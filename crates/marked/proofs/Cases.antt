@@ -10,7 +10,7 @@ use Rattle.reader.specs.Read.{readOf}
 use Rattle.report.specs.Empty.{noStatus}
 use Rattle.report.specs.declared.status.Status.{Status}
 use Rattle.report.specs.declared.report.AlarmReport.{AlarmReport}
-use Rattle.bank_history.specs.Calls.{Call}
+use Rattle.bank_history.specs.Calls.{Call, scan}
 use Rattle.bank_history.specs.Answers.{bufferAfter, accepted}
 use Rattle.bank_history.specs.Report.{reportAfter}
 
@@ -47,7 +47,7 @@ real time pattern word = bytes 8 time ++ (bytes 4 pattern ++ bytes 4 word)
 
 -- calls with an event buffer of 64 bytes
 abbrev pub calls : List (List ℕ) → List Call
-calls records = map (λ rec. record { bytes = rec; buffer = replicate 64 0 }) records
+calls records = map (λ rec. scan rec (replicate 64 0)) records
 
 -- the event buffer of `room` zero bytes after the next record, when these were handed in before it
 abbrev pub written : List ℕ → List (List ℕ) → List ℕ → ℕ → List ℕ

@@ -1,12 +1,12 @@
 // A drive: the scan records of standard input, run on a bank.
 use crate::show::add_answer;
 use crate::show::add_bank;
-use bank::scan::scan;
 use layout::sizes::ANALOG_COUNT;
 use layout::sizes::DIGITAL_COUNT;
 use layout::sizes::MARKS_WORDS;
 use layout::sizes::SETTINGS_WORDS;
 use layout::sizes::STATES_WORDS;
+use scan::scan::scan;
 use scan_record::check::record_length;
 use text::input::Source;
 use text::input::part;

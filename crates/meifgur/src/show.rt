@@ -1,9 +1,9 @@
 // What a bank's calls answer, as lines. Each function adds to what waits and answers how much waits then.
 ghost use Prim.Native.Nat.{_≤_};
 ghost use lib.ListN.{length};
-use bank::answer::Answer;
 use report::report::report;
 use report::status::Status;
+use scan::answer::Answer;
 use settings::reply::Refusal;
 use settings::reply::Reply;
 use text::show::add_form;

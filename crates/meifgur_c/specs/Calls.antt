@@ -11,8 +11,8 @@ use Rattle.settings.specs.declared.reply.Reply.the-variants.{Accepted, Refused 
 use Rattle.layout.specs.Internal.Block.{digitalIn, analogIn}
 use Rattle.image.specs.declared.write.Written.{Written}
 use Rattle.image.specs.declared.write.Written.the-variants.{Length, Refused as NotWritten}
-use Rattle.bank.specs.declared.answer.Answer.{Answer}
-use Rattle.bank.specs.declared.answer.Answer.the-variants.{Events, Refused}
+use Rattle.scan.specs.declared.answer.Answer.{Answer}
+use Rattle.scan.specs.declared.answer.Answer.the-variants.{Events, Refused}
 use Rattle.report.specs.declared.report.AlarmReport.{AlarmReport}
 use Rattle.replay.specs.declared.replay.Replayed.{Replayed}
 use Rattle.host_bytes.specs.Bytes.{reportBytes}

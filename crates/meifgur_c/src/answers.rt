@@ -5,13 +5,13 @@ ghost use Prim.Native.Nat.{_≤_};
 ghost use lib.ListN.{length};
 ghost use lib.Seq.{sets};
 ghost use Rattle.meifgur_c.specs.Calls.{replyNumber, replyWords, loadFields, scanNumber, scanAnswer, writeNumber, writeAnswer, replayAnswer};
-use bank::answer::Answer;
 use host_bytes::answer::put_five;
 use host_bytes::answer::put_four;
 use host_bytes::answer::put_three;
 use host_bytes::answer::put_two;
 use image::write::Written;
 use replay::replay::Replayed;
+use scan::answer::Answer;
 use settings::reply::Reply;
 
 // The answer has fewer words than the call fills.

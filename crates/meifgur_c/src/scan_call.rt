@@ -2,12 +2,13 @@
 ghost use mathlib.Core.Path.{_≡_};
 ghost use lib.ListN.{length};
 ghost use lib.Seq.{sets};
-ghost use Rattle.bank.specs.Internal.Words.{wordsIn, answerOf, scannedWords, bufferOf};
+ghost use Rattle.bank.specs.Internal.Words.{wordsIn};
+ghost use Rattle.scan.specs.Internal.Words.{answerOf, scannedWords, bufferOf};
 ghost use Rattle.meifgur_c.specs.Calls.{unless, shortAnswer, scanNumber, scanAnswer};
 use crate::answers::SCAN_ANSWER;
 use crate::answers::SHORT_ANSWER;
 use crate::answers::put_scanned;
-use bank::scan::scan;
+use scan::scan::scan;
 
 // Runs one scan record in place and fills the front of `events`, or refuses and leaves every word and byte.
 #[no_mangle]

@@ -6,10 +6,9 @@ use native.Mathlib.Omega.{arith}
 use lib.ListN.{length}
 use Rattle.settings.specs.declared.reply.Reply.{Reply}
 use Rattle.settings.specs.declared.reply.Reply.the-variants.{Accepted, Refused as RefusedBy}
-use Rattle.bank.specs.Internal.Scan.{onReply}
+use Rattle.bank.specs.Internal.Words.{onReply, fitOf}
 use Rattle.bank.specs.Lent.{Words}
-use Rattle.bank.specs.Internal.Words.{fitOf}
-use Rattle.bank.proofs.Fits.{Alike, alike-self, alike-fit}
+use Rattle.scan.proofs.Fits.{Alike, alike-self, alike-fit}
 use Rattle.replay.specs.Replay.{sizeFor, recordsIn, noneYet, replied, replayOf, replayedOf, replayedWords, replayedBuffer}
 use Rattle.replay.proofs.Runs.{kept}
 

@@ -14,10 +14,11 @@ use Rattle.layout.specs.Internal.Block.{digitalIn, analogIn}
 use Rattle.scan_record.specs.Part.{recordSize}
 use Rattle.scan_record.specs.Internal.Size.{lengthOf}
 use Rattle.bank.specs.Lent.{Words}
-use Rattle.bank.specs.Internal.Words.{wordsIn, answerOf, scannedWords, bufferOf}
-use Rattle.bank.specs.declared.answer.Answer.{Answer}
-use Rattle.bank.specs.declared.answer.Answer.the-variants.{Events, Refused}
-use Rattle.bank.proofs.Fits.{fits, buffer-length, Alike, alike-self, alike-on, scan-alike}
+use Rattle.bank.specs.Internal.Words.{wordsIn}
+use Rattle.scan.specs.Internal.Words.{answerOf, scannedWords, bufferOf}
+use Rattle.scan.specs.declared.answer.Answer.{Answer}
+use Rattle.scan.specs.declared.answer.Answer.the-variants.{Events, Refused}
+use Rattle.scan.proofs.Fits.{fits, buffer-length, Alike, alike-self, alike-on, scan-alike}
 use Rattle.replay.specs.Replay.{sizeFor, driveRecord, recordsIn, noneYet, counted, Progress, usedOf, leftOf, onward, progressAfter, replayOf}
 use Rattle.replay.specs.declared.replay.Tally.{Tally}
 

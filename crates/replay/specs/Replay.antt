@@ -8,11 +8,11 @@ use Rattle.settings.specs.declared.reply.Reply.{Reply}
 use Rattle.settings.specs.declared.reply.Reply.the-variants.{Accepted, Refused as RefusedBy}
 use Rattle.layout.specs.Internal.Block.{digitalIn, analogIn}
 use Rattle.scan_record.specs.Internal.Size.{lengthOf}
-use Rattle.bank.specs.Internal.Scan.{onReply}
+use Rattle.bank.specs.Internal.Words.{onReply, fitOf}
 use Rattle.bank.specs.Lent.{Words}
-use Rattle.bank.specs.Internal.Words.{fitOf, answerOf, scannedWords, bufferOf}
-use Rattle.bank.specs.declared.answer.Answer.{Answer}
-use Rattle.bank.specs.declared.answer.Answer.the-variants.{Events, Refused}
+use Rattle.scan.specs.Internal.Words.{answerOf, scannedWords, bufferOf}
+use Rattle.scan.specs.declared.answer.Answer.{Answer}
+use Rattle.scan.specs.declared.answer.Answer.the-variants.{Events, Refused}
 use Rattle.replay.specs.declared.replay.Replayed.{Replayed}
 use Rattle.replay.specs.declared.replay.Tally.{Tally}
 

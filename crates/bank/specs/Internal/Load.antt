@@ -9,8 +9,8 @@ use Rattle.settings.specs.declared.reply.Reply.{Reply}
 use Rattle.settings.specs.declared.reply.Reply.the-variants.{Accepted, Refused as RefusedBy}
 use Rattle.layout.specs.Internal.Block.{settingsWords}
 use Rattle.reader.specs.Read.{readOf}
-use Rattle.bank.specs.Internal.Scan.{onReply}
 use Rattle.bank.specs.Lent.{Words}
+use Rattle.bank.specs.Internal.Words.{onReply}
 
 -- each block has its length, whatever its words are. Else 42, and the block
 unfoldable pub roomOf : Words → Reply

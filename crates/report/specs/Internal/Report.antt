@@ -7,9 +7,8 @@ use Rattle.settings.specs.Alarm.{blank}
 use Rattle.settings.specs.declared.reply.Reply.the-variants.{Accepted}
 use Rattle.step.specs.Internal.Held.{freshState}
 use Rattle.bank.specs.Internal.Bank.{Bank}
-use Rattle.bank.specs.Internal.Scan.{onReply}
+use Rattle.bank.specs.Internal.Words.{onReply, fitOf, bankIn}
 use Rattle.bank.specs.Lent.{Words}
-use Rattle.bank.specs.Internal.Words.{fitOf, bankIn}
 use Rattle.report.specs.Empty.{refusedReport, noReport}
 use Rattle.report.specs.Internal.Status.{statusesOf}
 use Rattle.report.specs.Internal.Whole.{wholeOf}

@@ -7,7 +7,7 @@ use mathlib.Core.List.{List, [], _∷_}
 use Prim.Native.Nat.{ℕ}
 use lib.ListN.{length, getD}
 use lib.Seq.{sets}
-use Rattle.bank.specs.declared.answer.Answer.{Answer}
+use Rattle.scan.specs.declared.answer.Answer.{Answer}
 use Rattle.meifgur_c.specs.Calls.{scanNumber, scanAnswer}
 use Rattle.meifgur_c.proofs.scan_call.meifgur_scan_words.Statement.{statement}
 use Rattle.meifgur_c.proofs.scan_call.meifgur_scan_words.Tie as tie

@@ -2,7 +2,7 @@
 use borrow.Author.Needs.{needs}
 use mathlib.Core.Path.{refl, ap}
 use native.Mathlib.Omega.{arith}
-use Rattle.bank.specs.declared.answer.Answer.{Answer}
+use Rattle.scan.specs.declared.answer.Answer.{Answer}
 use Rattle.replay.specs.Replay.{counted}
 use Rattle.replay.proofs.replay.count_answer.Statement.{statement}
 use Rattle.replay.proofs.replay.count_answer.Tie as tie

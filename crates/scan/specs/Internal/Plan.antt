@@ -1,0 +1,63 @@
+-- What a scan makes of the alarms of a bank.
+use Prim.Native.Nat.{ℕ, zero, suc, _+_}
+use mathlib.Core.List.{List, [], _++_}
+use lib.Count.{ones}
+use lib.ListN.{getD, replicate}
+use Rattle.layout.specs.Internal.Block.{placed}
+use Rattle.settings.specs.Alarm.{blank, formAt}
+use Rattle.settings.specs.declared.types.Alarm.{Alarm}
+use Rattle.settings.specs.declared.types.Form.{Form}
+use Rattle.step.specs.Internal.Held.{freshState}
+use Rattle.step.specs.Internal.State.{State, Stepped}
+use Rattle.step.specs.Internal.Step.{stepOf}
+use Rattle.condition.specs.Event.{Event}
+use Rattle.scan_record.specs.Entry.{entryAt}
+use Rattle.scan_record.specs.declared.entry.Entry.{Entry}
+use Rattle.scan_record.specs.declared.entry.Entry.the-variants.{Read, Refused}
+use Rattle.scan_record.specs.Part.{offsetOf}
+use Rattle.sweep.specs.Internal.Sweep.{alarmEvents}
+
+-- an alarm is stepped with its part of the record; one that is refused, which no checked record has, changes nothing
+abbrev pub stepEntry : Entry → Alarm → State → ℕ → Stepped
+stepEntry (Read x word next) a s time = stepOf a s x word time
+stepEntry (Refused r) a s time = record { state = s; events = 0 }
+
+unfoldable pub stepPart : Form → List ℕ → ℕ → ℕ → Alarm → State → ℕ → Stepped
+stepPart form rec at number a s time = stepEntry (entryAt form rec at number) a s time
+
+-- the alarm at a place
+abbrev pub stepAt : List ℕ → ℕ → List Alarm → List State → ℕ → ℕ → Stepped
+stepAt rec digital alarms states time place =
+    stepPart (formAt digital place) rec (offsetOf digital place) (place + 1) (getD alarms place blank) (getD states place freshState) time
+
+-- the states after the scan, of n alarms
+abbrev pub statesAfter : List ℕ → ℕ → ℕ → List Alarm → List State → ℕ → List State
+statesAfter rec digital n alarms states time = placed (λ p. stepAt rec digital alarms states time p .state) n states
+
+-- the event words of n alarms, laid over what stood there
+abbrev pub wordsAfter : List ℕ → ℕ → ℕ → List Alarm → List State → ℕ → List ℕ → List ℕ
+wordsAfter rec digital n alarms states time words = placed (λ p. stepAt rec digital alarms states time p .events) n words
+
+-- the states after the scan, and the event word of each alarm
+pub record Plan : Type 0 where
+  pub states : List State
+  pub events : List ℕ
+
+unfoldable pub planOf : List ℕ → ℕ → ℕ → List Alarm → List State → ℕ → Plan
+planOf rec digital n alarms states time =
+    record {
+      states = statesAfter rec digital n alarms states time;
+      events = wordsAfter rec digital n alarms states time (replicate 24 0);
+    }
+
+-- how many events the first n words stand for
+unfoldable pub countOf : List ℕ → ℕ → ℕ
+countOf events zero = 0
+countOf events (suc n) = countOf events n + ones (getD events n 0)
+
+-- the events of the first n alarms, in number order
+unfoldable pub eventsUpTo : List Alarm → List State → List ℕ → ℕ → ℕ → List Event
+eventsUpTo alarms states events time zero = []
+eventsUpTo alarms states events time (suc n) =
+    eventsUpTo alarms states events time n
+    ++ alarmEvents (suc n) (getD alarms n blank) (getD states n freshState) (getD events n 0) time

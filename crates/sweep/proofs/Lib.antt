@@ -1,0 +1,4 @@
+pub mod Stepped
+pub mod Loops
+pub mod Halves
+pub mod Room
