@@ -19,7 +19,7 @@ use Rattle.settings_record.proofs.Laws.{was-read}
 use Rattle.settings_record.proofs.Sound.{sound}
 use Rattle.settings_record.specs.Record.{digitalAlarm, severitiesAt, limitsAt, analogAlarm, sizeOf, recordAt}
 use Rattle.image.specs.Internal.Write.{severityWords, limitWords, digitalBytes, analogBytes, kindBytes, recordBytes}
-use Rattle.settings.specs.Internal.Sound.{Bounded, SoundAlarm}
+use Rattle.settings.specs.Internal.Sound.{BoundedReals, SoundAlarm}
 use Rattle.settings.specs.declared.types.Alarm.{Alarm}
 use Rattle.settings.specs.declared.types.Form.{Form}
 use Rattle.settings.specs.declared.types.Form.the-variants.{Digital as DigitalForm, Analog as AnalogForm}
@@ -46,7 +46,7 @@ module _ (image : List ℕ) (b : T (areBytes image)) (at : ℕ) where
   real-back i h e = pattern-back (number image i 4) (number-lt image i 4 b h) e
 
   -- the words of an analog record: each REAL's pattern is the number that it was read from
-  analog-words : at + 61 ≤ length image → Bounded (limitsAt image (at + 25))
+  analog-words : at + 61 ≤ length image → BoundedReals (limitsAt image (at + 25))
       → severityWords (severitiesAt image (at + 1)) ++ (limitWords (limitsAt image (at + 25)) ++ (number image (at + 53) 4 ∷ number image (at + 57) 4 ∷ []))
       ≡ wordsAt image (at + 1) 15
   unfolding severitiesAt limitsAt wordsAt
@@ -62,11 +62,11 @@ module _ (image : List ℕ) (b : T (areBytes image)) (at : ℕ) where
       )
       (simp add-assoc)
 
-  analog-bytes : at + 61 ≤ length image → Bounded (limitsAt image (at + 25)) → recordBytes AnalogForm (analogAlarm image at) ≡ part image at 61
+  analog-bytes : at + 61 ≤ length image → BoundedReals (limitsAt image (at + 25)) → recordBytes AnalogForm (analogAlarm image at) ≡ part image at 61
   unfolding analogAlarm kindBytes analogBytes
   analog-bytes h g = ap (λ (l : List ℕ). getD image at 0 ∷ words l) (analog-words h g) ∙ record-part 15 h
 
-  analog-bounded : {a : Alarm} → analogAlarm image at ≡ a → SoundAlarm AnalogForm a → Bounded (limitsAt image (at + 25))
+  analog-bounded : {a : Alarm} → analogAlarm image at ≡ a → SoundAlarm AnalogForm a → BoundedReals (limitsAt image (at + 25))
   unfolding analogAlarm
   analog-bounded e s = (rw (← e) at s) .within
 

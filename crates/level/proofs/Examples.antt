@@ -8,10 +8,10 @@ use Prim.Native.Nat.{ℕ}
 use lib.Ieee.{Float, binary32, ofBits, ofInt, lt, le, neg, add, sub, mul, div}
 use Rattle.wire.specs.Real.{zeroReal}
 use Rattle.settings.specs.Condition.{H, L}
-use Rattle.settings.specs.Numbers.{AnalogOf, reals, newRate}
+use Rattle.settings.specs.Numbers.{AnalogOf, reals, newRate, analogReals}
 use Rattle.settings.specs.declared.types.Limits.{Limits}
 use Rattle.level.specs.Level.{met, frees}
-use Rattle.level.specs.Internal.Bits.{analogOf, metBits}
+use Rattle.level.specs.Internal.Bits.{metBits}
 use Rattle.level.specs.Internal.Sample.{Sample, sampleAfter}
 
 abbrev real : ℕ → Float
@@ -32,10 +32,10 @@ limits =
 
 -- H and L enabled, or no level; with a ROCPeriod
 abbrev both : AnalogOf Float
-both = analogOf 6 0 limits 0
+both = analogReals 6 0 limits 0
 
 abbrev none : ℕ → AnalogOf Float
-none period = analogOf 0 0 limits period
+none period = analogReals 0 0 limits period
 
 abbrev level : ℕ → Option Float
 level pattern = some (real pattern)

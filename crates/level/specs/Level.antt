@@ -3,8 +3,8 @@ use Prim.Native.Nat.{ℕ}
 use mathlib.Core.Bool.{Bool, true, false, not, _&&_, _||_, Bool·beq}
 use mathlib.Core.Option.{Option, none, some}
 use lib.Dec.{ltb}
-use Rattle.settings.specs.Alarm.{conditionSet, latched, onHH, onH, onL, onLL}
-use Rattle.settings.specs.Condition.{Condition, In, HH, H, L, LL, ROCPos, ROCNeg}
+use Rattle.settings.specs.Alarm.{conditionSet, latched}
+use Rattle.settings.specs.Condition.{Condition, In, HH, H, L, LL, ROCPos, ROCNeg, on}
 use Rattle.settings.specs.Numbers.{Numbers, AnalogOf}
 use Rattle.settings.specs.declared.types.Reading.{Reading}
 use Rattle.settings.specs.declared.types.Reading.the-variants.{Digital, Level}
@@ -39,19 +39,19 @@ module _ {X : Type 0} (n : Numbers X) (a : AnalogOf X) where
   -- met by a reading and a rate: In >= limit of HH, H, In <= limit of L, LL, where the level is enabled; rate >= ROCPosLimit, rate <= -ROCNegLimit
   unfoldable pub met : Condition → Option X → X → Bool
   met In x rate = false
-  met HH x rate = onHH (a .flags) && isLevel (λ r. n .atMost (a .limits .hh) r) x
-  met H x rate = onH (a .flags) && isLevel (λ r. n .atMost (a .limits .h) r) x
-  met L x rate = onL (a .flags) && isLevel (λ r. n .atMost r (a .limits .l)) x
-  met LL x rate = onLL (a .flags) && isLevel (λ r. n .atMost r (a .limits .ll)) x
-  met ROCPos x rate = limited (a .limits .rocpos) && n .atMost (a .limits .rocpos) rate
-  met ROCNeg x rate = limited (a .limits .rocneg) && n .atMost rate (n .opposite (a .limits .rocneg))
+  met HH x rate = on (a .flags) HH && isLevel (λ r. n .atMost (a .limit HH) r) x
+  met H x rate = on (a .flags) H && isLevel (λ r. n .atMost (a .limit H) r) x
+  met L x rate = on (a .flags) L && isLevel (λ r. n .atMost r (a .limit L)) x
+  met LL x rate = on (a .flags) LL && isLevel (λ r. n .atMost r (a .limit LL)) x
+  met ROCPos x rate = limited (a .limit ROCPos) && n .atMost (a .limit ROCPos) rate
+  met ROCNeg x rate = limited (a .limit ROCNeg) && n .atMost rate (n .opposite (a .limit ROCNeg))
 
   -- what clears it where it is not met: a reading past the Deadband, and of a rate nothing more
   unfoldable pub frees : Condition → Option X → Bool
   frees In x = false
-  frees HH x = isLevel (λ r. n .below r (n .minus (a .limits .hh) (a .limits .deadband))) x
-  frees H x = isLevel (λ r. n .below r (n .minus (a .limits .h) (a .limits .deadband))) x
-  frees L x = isLevel (λ r. n .below (n .plus (a .limits .l) (a .limits .deadband)) r) x
-  frees LL x = isLevel (λ r. n .below (n .plus (a .limits .ll) (a .limits .deadband)) r) x
+  frees HH x = isLevel (λ r. n .below r (n .minus (a .limit HH) (a .deadband))) x
+  frees H x = isLevel (λ r. n .below r (n .minus (a .limit H) (a .deadband))) x
+  frees L x = isLevel (λ r. n .below (n .plus (a .limit L) (a .deadband)) r) x
+  frees LL x = isLevel (λ r. n .below (n .plus (a .limit LL) (a .deadband)) r) x
   frees ROCPos x = true
   frees ROCNeg x = true

@@ -21,19 +21,7 @@ conditionSet flags = bit flags 0
 abbrev pub latched : ℕ → Bool
 latched flags = bit flags 2
 
--- of an analog alarm: bits 0 to 3 HH, H, L, LL enabled, 4 AckRequired
-abbrev pub onHH : ℕ → Bool
-onHH flags = bit flags 0
-
-abbrev pub onH : ℕ → Bool
-onH flags = bit flags 1
-
-abbrev pub onL : ℕ → Bool
-onL flags = bit flags 2
-
-abbrev pub onLL : ℕ → Bool
-onLL flags = bit flags 3
-
+-- AckRequired is bit 4 of an analog alarm's flags
 abbrev pub ackRequired : Kind → ℕ → Bool
 ackRequired (Digital severity) flags = bit flags 1
 ackRequired (Analog limits severities period) flags = bit flags 4

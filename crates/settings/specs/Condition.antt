@@ -4,6 +4,7 @@ use mathlib.Core.Bool.{Bool, false, _||_}
 use mathlib.Core.List.{List, [], _∷_}
 use lib.Dec.{ltb}
 use lib.ListN.{getD}
+use Rattle.wire.specs.Bits.{bit}
 use Rattle.settings.specs.declared.types.Kind.{Kind}
 use Rattle.settings.specs.declared.types.Kind.the-variants.{Digital, Analog}
 
@@ -25,6 +26,10 @@ numberOf L = 3
 numberOf LL = 4
 numberOf ROCPos = 5
 numberOf ROCNeg = 6
+
+-- a level is enabled: bits 0 to 3 of an analog alarm's flags are HH, H, L, LL
+abbrev pub on : ℕ → Condition → Bool
+on flags c = bit flags (numberOf c - 1)
 
 -- a level's side, HH with H and L with LL, has one with p; no other condition has a side
 abbrev pub sideHas : Condition → (Condition → Bool) → Bool

@@ -1,12 +1,15 @@
 -- Forms of numbers: what the rules of an analog alarm ask of its limits and readings. REALs are one form; each of their operations rounds once.
 use Prim.Native.Nat.{ℕ, min}
 use mathlib.Core.Bool.{Bool, cond}
+use mathlib.Core.List.{[], _∷_}
 use mathlib.Core.Option.{Option, none, some}
 use lib.Dec.{eqb}
+use lib.ListN.{getD}
 use lib.IntN.{pos}
 use lib.Ieee.{Float, binary32, ofBits, ofInt, lt, le, neg, add, sub, mul, div}
-use Rattle.wire.specs.Real.{zeroReal}
+use Rattle.wire.specs.Real.{zeroReal, bounded}
 use Rattle.settings.specs.Alarm.{limitsOf, periodOf}
+use Rattle.settings.specs.Condition.{Condition, numberOf}
 use Rattle.settings.specs.declared.types.Alarm.{Alarm}
 use Rattle.settings.specs.declared.types.Limits.{Limits}
 use Rattle.settings.specs.declared.types.Reading.{Reading}
@@ -15,6 +18,8 @@ use Rattle.settings.specs.declared.types.Reading.the-variants.{Digital, 
 pub record Numbers (X : Type 0) : Type 0 where
   -- the number that a decoded reading is; a digital bit is none
   pub number : Reading → Option X
+  -- within the range of settings and readings
+  pub inside : X → Bool
   pub nought : X
   pub below : X → X → Bool
   pub atMost : X → X → Bool
@@ -29,22 +34,14 @@ abbrev pub valueOf : {X : Type 0} → Numbers X → Option X → X
 valueOf n none = n .nought
 valueOf n (some x) = x
 
--- the numbers of an analog alarm
-pub record LimitsOf (X : Type 0) : Type 0 where
-  pub hh : X
-  pub h : X
-  pub l : X
-  pub ll : X
-  pub deadband : X
-  pub rocpos : X
-  pub rocneg : X
-
--- what its scans look at in its settings
+-- what the scans of an analog alarm look at in its settings
 pub record AnalogOf (X : Type 0) : Type 0 where
   pub flags : ℕ
   pub duration : ℕ
-  pub limits : LimitsOf X
   pub period : ℕ
+  pub deadband : X
+  -- of a level, or of a rate
+  pub limit : Condition → X
 
 -- ---- REALs
 
@@ -65,12 +62,13 @@ realOf (Level x) = some x
 
 abbrev pub reals : Numbers Float
 reals =
-    record { number = realOf; nought = zeroReal; below = lt; atMost = le; plus = add binary32; minus = sub binary32; opposite = neg; rated = newRate }
+    record { number = realOf; inside = bounded; nought = zeroReal; below = lt; atMost = le; plus = add binary32; minus = sub binary32; opposite = neg; rated = newRate }
 
-abbrev pub realLimits : Limits → LimitsOf Float
-realLimits g =
-    record { hh = g .hh; h = g .h; l = g .l; ll = g .ll; deadband = g .deadband; rocpos = g .rocpos; rocneg = g .rocneg }
+abbrev pub realLimit : Limits → Condition → Float
+realLimit g c = getD (zeroReal ∷ g .hh ∷ g .h ∷ g .l ∷ g .ll ∷ g .rocpos ∷ g .rocneg ∷ []) (numberOf c) zeroReal
+
+abbrev pub analogReals : ℕ → ℕ → Limits → ℕ → AnalogOf Float
+analogReals flags duration g period = record { flags = flags; duration = duration; period = period; deadband = g .deadband; limit = realLimit g }
 
 abbrev pub realAnalog : Alarm → AnalogOf Float
-realAnalog a =
-    record { flags = a .flags; duration = a .duration; limits = realLimits (limitsOf (a .kind)); period = periodOf (a .kind) }
+realAnalog a = analogReals (a .flags) (a .duration) (limitsOf (a .kind)) (periodOf (a .kind))

@@ -6,14 +6,12 @@ use Prim.Native.Nat.{ℕ, _+_}
 use borrow.Author.Tests.{ltb-true, leb-true}
 use lib.Dec.{leb}
 use lib.ListN.{getD}
-use lib.Ieee.{binary32, lt, add, sub}
 use Rattle.wire.specs.Number.{number}
-use Rattle.wire.specs.Real.{bounded}
 use Rattle.wire.proofs.Laws.{and-true}
-use Rattle.settings.specs.Alarm.{onHH, onH, onL, onLL}
+use Rattle.settings.specs.Condition.{Condition, HH, H, L, LL, ROCPos, ROCNeg, on}
+use Rattle.settings.specs.Numbers.{Numbers, reals, realLimit}
 use Rattle.settings.specs.Rules.{nonNegative, limitsInRange, durationInRange, inRange, ordered, rising, lowOf, highOf, banded, apart}
 use Rattle.settings.specs.Internal.Sound.{Bounded, Rising, Banded, SoundAlarm}
-use Rattle.settings.specs.declared.types.Limits.{Limits}
 use Rattle.settings.specs.declared.types.Alarm.{Alarm}
 use Rattle.settings.specs.declared.types.Form.{Form}
 use Rattle.settings.specs.declared.types.Form.the-variants.{Digital as DigitalForm, Analog as AnalogForm}
@@ -32,47 +30,58 @@ both-true a b c e f g = or-true (a && b) c e (rw (f, g))
 
 -- ---- the facts of a record
 
-in-range : (g : Limits) → limitsInRange g ≡ true
-    → Bounded g × (nonNegative (g .deadband) ≡ true) × (nonNegative (g .rocpos) ≡ true) × (nonNegative (g .rocneg) ≡ true)
-unfolding limitsInRange
-in-range g e =
-    let n = and-true _ (nonNegative (g .rocneg)) e in
-    let p = and-true _ (nonNegative (g .rocpos)) (n .0) in
-    let d = and-true _ (nonNegative (g .deadband)) (p .0) in
-    let o = and-true _ (bounded (g .deadband) && bounded (g .rocpos) && bounded (g .rocneg)) (d .0) in
-    let o₁ = and-true _ (bounded (g .rocneg)) (o .1) in
-    let o₀ = and-true (bounded (g .deadband)) (bounded (g .rocpos)) (o₁ .0) in
-    let l₂ = and-true _ (bounded (g .ll)) (o .0) in
-    let l₁ = and-true _ (bounded (g .l)) (l₂ .0) in
-    let l₀ = and-true (bounded (g .hh)) (bounded (g .h)) (l₁ .0) in
-    (record { hh = l₀ .0; h = l₀ .1; l = l₁ .1; ll = l₂ .1; deadband = o₀ .0; rocpos = o₀ .1; rocneg = o₁ .1 }, d .1, p .1, n .1)
+module _ {X : Type 0} (n : Numbers X) where
+  in-range : (limit : Condition → X) (d : X) → limitsInRange n limit d ≡ true
+      → Bounded n limit d × (nonNegative n d ≡ true) × (nonNegative n (limit ROCPos) ≡ true) × (nonNegative n (limit ROCNeg) ≡ true)
+  unfolding limitsInRange
+  in-range limit d e =
+      let s₂ = and-true _ (nonNegative n (limit ROCNeg)) e in
+      let s₁ = and-true _ (nonNegative n (limit ROCPos)) (s₂ .0) in
+      let s₀ = and-true _ (nonNegative n d) (s₁ .0) in
+      let o = and-true _ (n .inside d && n .inside (limit ROCPos) && n .inside (limit ROCNeg)) (s₀ .0) in
+      let o₁ = and-true _ (n .inside (limit ROCNeg)) (o .1) in
+      let o₀ = and-true (n .inside d) (n .inside (limit ROCPos)) (o₁ .0) in
+      let l₂ = and-true _ (n .inside (limit LL)) (o .0) in
+      let l₁ = and-true _ (n .inside (limit L)) (l₂ .0) in
+      let l₀ = and-true (n .inside (limit HH)) (n .inside (limit H)) (l₁ .0) in (
+        record { hh = l₀ .0; h = l₀ .1; l = l₁ .1; ll = l₂ .1; deadband = o₀ .0; rocpos = o₀ .1; rocneg = o₁ .1 },
+        s₀ .1,
+        s₁ .1,
+        s₂ .1,
+      )
 
-rises : (flags : ℕ) (g : Limits) → rising flags g ≡ true → Rising flags g
-unfolding rising
-rises flags g e =
-    let e₅ = and-true _ (ordered (onH flags) (g .h) (onHH flags) (g .hh)) e in
-    let e₄ = and-true _ (ordered (onL flags) (g .l) (onHH flags) (g .hh)) (e₅ .0) in
-    let e₃ = and-true _ (ordered (onL flags) (g .l) (onH flags) (g .h)) (e₄ .0) in
-    let e₂ = and-true _ (ordered (onLL flags) (g .ll) (onHH flags) (g .hh)) (e₃ .0) in
-    let e₁ = and-true (ordered (onLL flags) (g .ll) (onL flags) (g .l)) (ordered (onLL flags) (g .ll) (onH flags) (g .h)) (e₂ .0) in
-    record {
-      ll-l = both-true (onLL flags) (onL flags) _ (e₁ .0);
-      ll-h = both-true (onLL flags) (onH flags) _ (e₁ .1);
-      ll-hh = both-true (onLL flags) (onHH flags) _ (e₂ .1);
-      l-h = both-true (onL flags) (onH flags) _ (e₃ .1);
-      l-hh = both-true (onL flags) (onHH flags) _ (e₄ .1);
-      h-hh = both-true (onH flags) (onHH flags) _ (e₅ .1);
-    }
+  module _ (flags : ℕ) (limit : Condition → X) where
+    abbrev pair : Condition → Condition → Bool
+    pair = ordered n flags limit
 
-bands : (flags : ℕ) (g : Limits) → banded flags g ≡ true → Banded flags g
-unfolding banded
-bands flags g e =
-    let x = lt (lowOf flags g) (sub binary32 (highOf flags g) (g .deadband)) in
-    let y = lt (add binary32 (lowOf flags g) (g .deadband)) (highOf flags g) in
-    record {
-      below = λ p q. and-true x y (both-true (onHH flags || onH flags) (onL flags || onLL flags) (x && y) e p q) .0;
-      above = λ p q. and-true x y (both-true (onHH flags || onH flags) (onL flags || onLL flags) (x && y) e p q) .1;
-    }
+    rises : rising n flags limit ≡ true → Rising n flags limit
+    unfolding rising
+    rises e =
+        let e₅ = and-true _ (pair H HH) e in
+        let e₄ = and-true _ (pair L HH) (e₅ .0) in
+        let e₃ = and-true _ (pair L H) (e₄ .0) in
+        let e₂ = and-true _ (pair LL HH) (e₃ .0) in
+        let e₁ = and-true (pair LL L) (pair LL H) (e₂ .0) in
+        record {
+          ll-l = both-true (on flags LL) (on flags L) _ (e₁ .0);
+          ll-h = both-true (on flags LL) (on flags H) _ (e₁ .1);
+          ll-hh = both-true (on flags LL) (on flags HH) _ (e₂ .1);
+          l-h = both-true (on flags L) (on flags H) _ (e₃ .1);
+          l-hh = both-true (on flags L) (on flags HH) _ (e₄ .1);
+          h-hh = both-true (on flags H) (on flags HH) _ (e₅ .1);
+        }
+
+    bands : (d : X) → banded n flags limit d ≡ true → Banded n flags limit d
+    unfolding banded
+    bands d e =
+        let high = on flags HH || on flags H in
+        let low = on flags L || on flags LL in
+        let x = n .below (lowOf n flags limit) (n .minus (highOf n flags limit) d) in
+        let y = n .below (n .plus (lowOf n flags limit) d) (highOf n flags limit) in
+        record {
+          below = λ p q. and-true x y (both-true high low (x && y) e p q) .0;
+          above = λ p q. and-true x y (both-true high low (x && y) e p q) .1;
+        }
 
 -- of a record of either form
 pub sound : (form : Form) (image : List ℕ) (at : ℕ) {a : Alarm} {next : ℕ} → recordAt form image at ≡ Recorded a next → SoundAlarm form a
@@ -85,9 +94,9 @@ sound AnalogForm image at e =
     let flags = getD image at 0 in
     let g = limitsAt image (at + 25) in
     let n₁ = and-true _ (durationInRange (number image (at + 57) 4)) (r .passed .1 .0) in
-    let n₀ = and-true (limitsInRange g) (leb (number image (at + 53) 4) 3600000) (n₁ .0) in
-    let n = in-range g (n₀ .0) in
-    let o = and-true (rising flags g) (banded flags g) (r .passed .1 .1 .0) in
+    let n₀ = and-true (limitsInRange reals (realLimit g) (g .deadband)) (leb (number image (at + 53) 4) 3600000) (n₁ .0) in
+    let n = in-range reals (realLimit g) (g .deadband) (n₀ .0) in
+    let o = and-true (rising reals flags (realLimit g)) (banded reals flags (realLimit g) (g .deadband)) (r .passed .1 .1 .0) in
     subst (SoundAlarm AnalogForm) (r .alarm)
     (record {
       known = ltb-true _ 32 (r .passed .0);
@@ -95,8 +104,8 @@ sound AnalogForm image at e =
       deadband-sign = n .1;
       rocpos-sign = n .2;
       rocneg-sign = n .3;
-      rises = rises flags g (o .0);
-      bands = bands flags g (o .1);
+      rises = rises reals flags (realLimit g) (o .0);
+      bands = bands reals flags (realLimit g) (g .deadband) (o .1);
       period-range = leb-true _ 3600000 (n₀ .1);
       duration-range = leb-true _ 2147483647 (n₁ .1);
     })

@@ -8,6 +8,7 @@ use lib.Ieee.{Float}
 use Rattle.wire.specs.Number.{number}
 use Rattle.wire.specs.Real.{realAt}
 use Rattle.settings.specs.Refusals.{outOfRange, unknownFlag, wrongLimits, incomplete, checked}
+use Rattle.settings.specs.Numbers.{reals, realLimit}
 use Rattle.settings.specs.Rules.{durationInRange, inRange, apart}
 use Rattle.settings.specs.declared.types.Limits.{Limits}
 use Rattle.settings.specs.declared.types.Severities.{Severities}
@@ -60,7 +61,8 @@ fieldsAt AnalogForm image at = analogAlarm image at
 abbrev pub checksOf : Kind → ℕ → ℕ → ℕ → List (Refusal × Bool)
 checksOf (Digital severity) flags duration at = (unknownFlag at, ltb flags 8) ∷ (outOfRange at, durationInRange duration) ∷ []
 checksOf (Analog g severities period) flags duration at =
-    (unknownFlag at, ltb flags 32) ∷ (outOfRange at, inRange g period duration) ∷ (wrongLimits at, apart flags g) ∷ []
+    (unknownFlag at, ltb flags 32) ∷ (outOfRange at, inRange reals (realLimit g) (g .deadband) period duration)
+    ∷ (wrongLimits at, apart reals flags (realLimit g) (g .deadband)) ∷ []
 
 -- 1 where the record is incomplete, then the checks of its alarm
 unfoldable pub recordAt : Form → List ℕ → ℕ → Record

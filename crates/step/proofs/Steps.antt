@@ -14,12 +14,12 @@ use Rattle.wire.specs.Internal.Words.{wordOf, spread}
 use Rattle.wire.proofs.WordLaws.{bit-digit, word-low}
 use Rattle.wire.proofs.MaskLaws.{bit-spread}
 use Rattle.settings.specs.Alarm.{limitsOf}
-use Rattle.settings.specs.Numbers.{AnalogOf, valueOf, newRate, realOf, reals, realAnalog}
+use Rattle.settings.specs.Numbers.{AnalogOf, valueOf, newRate, realOf, reals, realAnalog, analogReals}
 use Rattle.settings.specs.declared.types.Alarm.{Alarm}
 use Rattle.settings.specs.declared.types.Reading.{Reading}
 use Rattle.layout.specs.Internal.Words.{lowerOf, upperOf, pairOf}
 use Rattle.level.specs.Level.{bitMet, met, frees}
-use Rattle.level.specs.Internal.Bits.{analogOf, metBits, freesBits}
+use Rattle.level.specs.Internal.Bits.{metBits, freesBits}
 use Rattle.level.specs.Internal.Sample.{sampleAfter}
 use Rattle.condition.specs.Command.{acks}
 use Rattle.condition.specs.Internal.Mode.{modeBits}
@@ -336,10 +336,10 @@ rest-done a ws at x word time e w f unmet p =
 -- ---- of an alarm's settings the level rules see flags, limits and period
 
 pub met-sees : (a : Alarm) (x : Reading) (rate : Float)
-    → metBits reals (analogOf (a .flags) 0 (limitsOf (a .kind)) (realAnalog a .period)) (realOf x) rate ≡ metBits reals (realAnalog a) (realOf x) rate
+    → metBits reals (analogReals (a .flags) 0 (limitsOf (a .kind)) (realAnalog a .period)) (realOf x) rate ≡ metBits reals (realAnalog a) (realOf x) rate
 unfolding metBits met
 met-sees a x rate = refl
 
-pub frees-sees : (a : Alarm) (x : Reading) → freesBits reals (analogOf 0 0 (limitsOf (a .kind)) 0) (realOf x) ≡ freesBits reals (realAnalog a) (realOf x)
+pub frees-sees : (a : Alarm) (x : Reading) → freesBits reals (analogReals 0 0 (limitsOf (a .kind)) 0) (realOf x) ≡ freesBits reals (realAnalog a) (realOf x)
 unfolding freesBits frees
 frees-sees a x = refl

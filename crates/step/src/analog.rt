@@ -6,8 +6,8 @@ ghost use lib.Seq.{sets};
 ghost use Rattle.settings.specs.declared.types.Form.{Form};
 ghost use Rattle.wire.specs.Internal.Words.{wordOf, spread};
 ghost use Rattle.layout.specs.Internal.Words.{alarmIn};
-ghost use Rattle.settings.specs.Numbers.{reals, realOf, realAnalog};
-ghost use Rattle.level.specs.Internal.Bits.{analogOf, freesBits};
+ghost use Rattle.settings.specs.Numbers.{reals, realOf, realAnalog, analogReals};
+ghost use Rattle.level.specs.Internal.Bits.{freesBits};
 ghost use Rattle.step.specs.Internal.State.{stateIn, stateWords};
 ghost use Rattle.step.specs.Internal.Held.{realPatterns};
 ghost use Rattle.step.specs.Internal.Packed.{SameFrees};
@@ -32,7 +32,7 @@ use wire::real::from_pattern;
 
 // The conditions that the reading frees, or none where no condition is in alarm and not met: only such a one asks.
 fn frees_in(flags: u32, met: u32, limits: Limits, reading: Reading) -> u32
-    ensures { λ r. ⌜ SameFrees flags met r (wordOf (spread (freesBits reals (analogOf 0 0 limits 0) (realOf reading)))) ⌝ }
+    ensures { λ r. ⌜ SameFrees flags met r (wordOf (spread (freesBits reals (analogReals 0 0 limits 0) (realOf reading)))) ⌝ }
 {
     if only_in((flags / 64) & SIX, met) == 0 {
         return 0;

@@ -1,17 +1,10 @@
 -- The six conditions of an analog alarm as lists of bits, in the order HH, H, L, LL, ROCPos, ROCNeg.
-use Prim.Native.Nat.{ℕ}
 use mathlib.Core.Bool.{Bool}
 use mathlib.Core.List.{List, [], _∷_}
 use mathlib.Core.Option.{Option}
-use lib.Ieee.{Float}
 use Rattle.settings.specs.Condition.{HH, H, L, LL, ROCPos, ROCNeg}
-use Rattle.settings.specs.Numbers.{Numbers, AnalogOf, realLimits}
-use Rattle.settings.specs.declared.types.Limits.{Limits}
+use Rattle.settings.specs.Numbers.{Numbers, AnalogOf}
 use Rattle.level.specs.Level.{met, frees}
-
--- the settings of an analog alarm with REALs, from its parts
-abbrev pub analogOf : ℕ → ℕ → Limits → ℕ → AnalogOf Float
-analogOf flags duration g period = record { flags = flags; duration = duration; limits = realLimits g; period = period }
 
 module _ {X : Type 0} (n : Numbers X) (a : AnalogOf X) where
   unfoldable pub metBits : Option X → X → List Bool

@@ -2,9 +2,8 @@
 use Prim.Native.Nat.{ℕ, _<_, _≤_}
 use mathlib.Core.Path.{_≡_}
 use mathlib.Core.Bool.{true, _||_}
-use lib.Ieee.{binary32, lt, add, sub}
-use Rattle.wire.specs.Real.{bounded}
-use Rattle.settings.specs.Alarm.{onHH, onH, onL, onLL}
+use Rattle.settings.specs.Condition.{Condition, HH, H, L, LL, ROCPos, ROCNeg, on}
+use Rattle.settings.specs.Numbers.{Numbers, reals, realLimit}
 use Rattle.settings.specs.Rules.{nonNegative, lowOf, highOf}
 use Rattle.settings.specs.declared.types.Alarm.{Alarm}
 use Rattle.settings.specs.declared.types.Limits.{Limits}
@@ -17,47 +16,58 @@ pub record SoundDigital (flags duration : ℕ) : Type 0 where
   pub known : flags < 8
   pub duration-range : duration ≤ 2147483647
 
--- each REAL within the bound
-pub record Bounded (g : Limits) : Type 0 where
-  pub hh : bounded (g .hh) ≡ true
-  pub h : bounded (g .h) ≡ true
-  pub l : bounded (g .l) ≡ true
-  pub ll : bounded (g .ll) ≡ true
-  pub deadband : bounded (g .deadband) ≡ true
-  pub rocpos : bounded (g .rocpos) ≡ true
-  pub rocneg : bounded (g .rocneg) ≡ true
+-- ---- an analog alarm of any form of numbers
 
--- each enabled level stands below each enabled one above it
-pub record Rising (flags : ℕ) (g : Limits) : Type 0 where
-  pub ll-l : onLL flags ≡ true → onL flags ≡ true → lt (g .ll) (g .l) ≡ true
-  pub ll-h : onLL flags ≡ true → onH flags ≡ true → lt (g .ll) (g .h) ≡ true
-  pub ll-hh : onLL flags ≡ true → onHH flags ≡ true → lt (g .ll) (g .hh) ≡ true
-  pub l-h : onL flags ≡ true → onH flags ≡ true → lt (g .l) (g .h) ≡ true
-  pub l-hh : onL flags ≡ true → onHH flags ≡ true → lt (g .l) (g .hh) ≡ true
-  pub h-hh : onH flags ≡ true → onHH flags ≡ true → lt (g .h) (g .hh) ≡ true
+module _ {X : Type 0} (n : Numbers X) where
+  -- each number inside its range
+  pub record Bounded (limit : Condition → X) (d : X) : Type 0 where
+    pub hh : n .inside (limit HH) ≡ true
+    pub h : n .inside (limit H) ≡ true
+    pub l : n .inside (limit L) ≡ true
+    pub ll : n .inside (limit LL) ≡ true
+    pub deadband : n .inside d ≡ true
+    pub rocpos : n .inside (limit ROCPos) ≡ true
+    pub rocneg : n .inside (limit ROCNeg) ≡ true
 
--- the two Deadband inequalities, where both sides have an enabled level
-pub record Banded (flags : ℕ) (g : Limits) : Type 0 where
-  pub below : onHH flags || onH flags ≡ true → onL flags || onLL flags ≡ true → lt (lowOf flags g) (sub binary32 (highOf flags g) (g .deadband)) ≡ true
-  pub above : onHH flags || onH flags ≡ true → onL flags || onLL flags ≡ true → lt (add binary32 (lowOf flags g) (g .deadband)) (highOf flags g) ≡ true
+  -- an enabled level stands below each enabled one above it
+  abbrev pub Below : ℕ → (Condition → X) → Condition → Condition → Type 0
+  Below flags limit c d = on flags c ≡ true → on flags d ≡ true → n .below (limit c) (limit d) ≡ true
 
-pub record SoundAnalog (flags : ℕ) (g : Limits) (period duration : ℕ) : Type 0 where
-  pub known : flags < 32
-  pub within : Bounded g
-  pub deadband-sign : nonNegative (g .deadband) ≡ true
-  pub rocpos-sign : nonNegative (g .rocpos) ≡ true
-  pub rocneg-sign : nonNegative (g .rocneg) ≡ true
-  pub rises : Rising flags g
-  pub bands : Banded flags g
-  pub period-range : period ≤ 3600000
-  pub duration-range : duration ≤ 2147483647
+  pub record Rising (flags : ℕ) (limit : Condition → X) : Type 0 where
+    pub ll-l : Below flags limit LL L
+    pub ll-h : Below flags limit LL H
+    pub ll-hh : Below flags limit LL HH
+    pub l-h : Below flags limit L H
+    pub l-hh : Below flags limit L HH
+    pub h-hh : Below flags limit H HH
+
+  -- the two Deadband inequalities, where both sides have an enabled level
+  pub record Banded (flags : ℕ) (limit : Condition → X) (deadband : X) : Type 0 where
+    pub below : on flags HH || on flags H ≡ true → on flags L || on flags LL ≡ true
+        → n .below (lowOf n flags limit) (n .minus (highOf n flags limit) deadband) ≡ true
+    pub above : on flags HH || on flags H ≡ true → on flags L || on flags LL ≡ true
+        → n .below (n .plus (lowOf n flags limit) deadband) (highOf n flags limit) ≡ true
+
+  pub record SoundAnalog (flags : ℕ) (limit : Condition → X) (deadband : X) (period duration : ℕ) : Type 0 where
+    pub known : flags < 32
+    pub within : Bounded limit deadband
+    pub deadband-sign : nonNegative n deadband ≡ true
+    pub rocpos-sign : nonNegative n (limit ROCPos) ≡ true
+    pub rocneg-sign : nonNegative n (limit ROCNeg) ≡ true
+    pub rises : Rising flags limit
+    pub bands : Banded flags limit deadband
+    pub period-range : period ≤ 3600000
+    pub duration-range : duration ≤ 2147483647
+
+abbrev pub BoundedReals : Limits → Type 0
+BoundedReals g = Bounded reals (realLimit g) (g .deadband)
 
 -- an alarm of its section's kind, with that kind's facts
 abbrev pub Sound : Form → Kind → ℕ → ℕ → Type 0
 Sound DigitalForm (Digital severity) flags duration = SoundDigital flags duration
 Sound DigitalForm (Analog g s period) flags duration = ⊥
 Sound AnalogForm (Digital severity) flags duration = ⊥
-Sound AnalogForm (Analog g s period) flags duration = SoundAnalog flags g period duration
+Sound AnalogForm (Analog g s period) flags duration = SoundAnalog reals flags (realLimit g) (g .deadband) period duration
 
 abbrev pub SoundAlarm : Form → Alarm → Type 0
 SoundAlarm form a = Sound form (a .kind) (a .flags) (a .duration)

@@ -13,12 +13,12 @@ use lib.Ieee.{Float, binary32, ofBits}
 use Rattle.wire.specs.Bits.{bit}
 use Rattle.wire.specs.Internal.Words.{wordOf, spread}
 use Rattle.wire.proofs.Laws.{and-true}
-use Rattle.settings.specs.Numbers.{AnalogOf, realOf, reals, realAnalog}
+use Rattle.settings.specs.Numbers.{AnalogOf, realOf, reals, realAnalog, analogReals}
 use Rattle.settings.specs.declared.types.Alarm.{Alarm}
 use Rattle.settings.specs.declared.types.Form.the-variants.{Analog}
 use Rattle.settings.specs.declared.types.Reading.{Reading}
 use Rattle.layout.specs.Internal.Words.{lowerOf, pairOf, alarmIn}
-use Rattle.level.specs.Internal.Bits.{analogOf, metBits, freesBits}
+use Rattle.level.specs.Internal.Bits.{metBits, freesBits}
 use Rattle.condition.specs.Internal.Mode.{modeBits}
 use Rattle.step.specs.Internal.State.{State, stateIn}
 use Rattle.step.specs.Internal.Packed.{rateIn, sampleIn, sampledIn, keepStarts, allBegin, enabledIn}
@@ -66,7 +66,7 @@ returns c =
     let limits = met-at .before .before .limits-in .ensures in
     let met =
     met-at .met-word .ensures .0
-    ∙ (λ i. wordOf (spread (metBits reals (analogOf (set i) 0 (limits i) (per i)) (realOf x) (real i))))
+    ∙ (λ i. wordOf (spread (metBits reals (analogReals (set i) 0 (limits i) (per i)) (realOf x) (real i))))
     ∙ ap (λ (bs : List Bool). wordOf (spread bs)) (met-sees alarm x _)
     in
     let rests = and-true _ _ (c .if1 .taken) in
@@ -125,7 +125,7 @@ returns-2 c =
     let limits = met-at .before .before .limits-in .ensures in
     let met =
     met-at .met-word .ensures .0
-    ∙ (λ i. wordOf (spread (metBits reals (analogOf (set i) 0 (limits i) (per i)) (realOf x) (real i))))
+    ∙ (λ i. wordOf (spread (metBits reals (analogReals (set i) 0 (limits i) (per i)) (realOf x) (real i))))
     ∙ ap (λ (bs : List Bool). wordOf (spread bs)) (met-sees alarm x _)
     in
     let f = ap (λ (l : List ℕ). getD l (g .at) 0) stored ∙ beside-sample ws (g .at) _ _ .0 in
@@ -135,7 +135,7 @@ returns-2 c =
     let asked = c .before .before .before .before .frees-in .ensures in
     let lasts = c .before .before .before .duration-in .ensures in
     let frees =
-    (λ i. wordOf (spread (freesBits reals (analogOf 0 0 (limits i) 0) (realOf x))))
+    (λ i. wordOf (spread (freesBits reals (analogReals 0 0 (limits i) 0) (realOf x))))
     ∙ ap (λ (bs : List Bool). wordOf (spread bs)) (frees-sees alarm x)
     in
     let events = events-are a ws (g .at) x (g .word) (g .time) m met asked low frees lasts need f h l in
