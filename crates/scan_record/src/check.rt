@@ -1,8 +1,6 @@
 // The check of a whole scan record.
 ghost use mathlib.Core.Path.{_≡_};
 ghost use Prim.Native.Nat.{_+_, _≤_};
-ghost use mathlib.Core.Bool.{_&&_};
-ghost use lib.Dec.{leb};
 ghost use lib.ListN.{length};
 ghost use Rattle.scan_record.specs.Part.{recordSize};
 ghost use Rattle.settings.specs.Alarm.{formAt};
@@ -13,6 +11,7 @@ use crate::entry::entry_at;
 use crate::part::ANALOG_PART;
 use crate::part::DIGITAL_PART;
 use crate::part::TIME_SIZE;
+use settings::counts::is_bank;
 use settings::refusals::EARLIER_TIME;
 use settings::refusals::WRONG_LENGTH;
 use settings::reply::Refusal;
@@ -29,13 +28,6 @@ pub fn form_at(digital: usize, place: usize) -> Form
     } else {
         Form::Analog
     }
-}
-
-// Whether so many alarms are a bank's: at most 12 of each kind.
-fn is_bank(digital: usize, analog: usize) -> bool
-    ensures { λ r. ⌜ r ≡ leb digital 12 && leb analog 12 ⌝ }
-{
-    (digital <= 12) & (analog <= 12)
 }
 
 // The length of the records of a bank with so many alarms.

@@ -3,7 +3,7 @@ use borrow.Author.Needs.{needs}
 use borrow.Author.Tests.{not-true, not-false}
 use native.Mathlib.Omega.{arith}
 use Rattle.scan_record.specs.Internal.Size.{lengthOf}
-use Rattle.scan_record.proofs.Entries.{bank-says}
+use Rattle.wire.proofs.Laws.{most-true}
 use Rattle.scan_record.proofs.check.record_length.Statement.{statement}
 use Rattle.scan_record.proofs.check.record_length.Tie as tie
 
@@ -15,28 +15,28 @@ mul-result : tie.Need-mul-result
 mul-result c =
     let b = c .before in
     let a = b .before .args in
-    let most = bank-says (a .digital) (a .analog) (b .is-bank .ensures) (not-false (b .is-bank .result) (c .if1 .left)) in
+    let most = most-true (a .digital) (a .analog) 12 12 (b .is-bank .ensures) (not-false (b .is-bank .result) (c .if1 .left)) in
     omega arith
 
 add-result : tie.Need-add-result
 add-result c =
     let b = c .before in
     let a = b .before .args in
-    let most = bank-says (a .digital) (a .analog) (b .is-bank .ensures) (not-false (b .is-bank .result) (c .if1 .left)) in
+    let most = most-true (a .digital) (a .analog) 12 12 (b .is-bank .ensures) (not-false (b .is-bank .result) (c .if1 .left)) in
     omega arith
 
 mul-result-2 : tie.Need-mul-result-2
 mul-result-2 c =
     let b = c .before in
     let a = b .before .args in
-    let most = bank-says (a .digital) (a .analog) (b .is-bank .ensures) (not-false (b .is-bank .result) (c .if1 .left)) in
+    let most = most-true (a .digital) (a .analog) 12 12 (b .is-bank .ensures) (not-false (b .is-bank .result) (c .if1 .left)) in
     omega arith
 
 add-result-2 : tie.Need-add-result-2
 add-result-2 c =
     let b = c .before in
     let a = b .before .args in
-    let most = bank-says (a .digital) (a .analog) (b .is-bank .ensures) (not-false (b .is-bank .result) (c .if1 .left)) in
+    let most = most-true (a .digital) (a .analog) 12 12 (b .is-bank .ensures) (not-false (b .is-bank .result) (c .if1 .left)) in
     omega arith
 
 returns-2 : tie.Need-returns-2
