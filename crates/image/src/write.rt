@@ -5,7 +5,7 @@ ghost use lib.ListN.{length};
 ghost use lib.Seq.{sets, slice};
 ghost use Rattle.wire.specs.Internal.Words.{words};
 ghost use Rattle.settings_record.specs.Record.{wordPlace, sizeOf};
-ghost use Rattle.image.specs.Internal.Write.{severityWords, limitWords, digitalBytes, analogBytes, recordBytes, recordsBytes, sectionBytes, readAs, hasRoom, writtenOf, imageBuffer, writeOf, writeBuffer};
+ghost use Rattle.image.specs.Internal.Write.{severityWords, limitWords, digitalBytes, analogBytes, recordBytes, recordsBytes, sectionBytes, readAs, sizeOfImage, hasRoom, writtenOf, imageBuffer, writeOf, writeBuffer};
 ghost use Rattle.layout.specs.Internal.Block.{settingsIn};
 use layout::block::is_block;
 use layout::read::alarm_in;
@@ -183,6 +183,14 @@ fn put_section(
     put_records(out, at + 1, form, first, first + count, words)
 }
 
+// The length of the image of settings with so many alarms.
+fn image_size(digital: usize, analog: usize) -> usize
+    requires { ⌜ (digital ≤ 12) × (analog ≤ 12) ⌝ }
+    ensures { λ r. ⌜ r ≡ sizeOfImage digital analog ⌝ }
+{
+    COUNTS + DIGITAL_SIZE * digital + ANALOG_SIZE * analog
+}
+
 // Whether settings with so many alarms have an image of at most `len` bytes.
 fn has_room(digital: usize, analog: usize, len: usize) -> bool
     ensures { λ r. ⌜ r ≡ hasRoom digital analog len ⌝ }
@@ -190,7 +198,7 @@ fn has_room(digital: usize, analog: usize, len: usize) -> bool
     if !is_bank(digital, analog) {
         return false;
     }
-    COUNTS + DIGITAL_SIZE * digital + ANALOG_SIZE * analog <= len
+    image_size(digital, analog) <= len
 }
 
 // Writes the image of the settings in a block.

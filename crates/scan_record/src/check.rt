@@ -30,6 +30,13 @@ pub fn form_at(digital: usize, place: usize) -> Form
     }
 }
 
+fn length_of(digital: usize, analog: usize) -> usize
+    requires { ⌜ (digital ≤ 12) × (analog ≤ 12) ⌝ }
+    ensures { λ r. ⌜ r ≡ recordSize digital analog ⌝ }
+{
+    TIME_SIZE + DIGITAL_PART * digital + ANALOG_PART * analog
+}
+
 // The length of the records of a bank with so many alarms.
 pub fn record_length(digital: usize, analog: usize) -> usize
     ensures { λ r. ⌜ (r ≡ lengthOf digital analog) × (8 ≤ r) ⌝ }
@@ -37,7 +44,7 @@ pub fn record_length(digital: usize, analog: usize) -> usize
     if !is_bank(digital, analog) {
         return TIME_SIZE;
     }
-    TIME_SIZE + DIGITAL_PART * digital + ANALOG_PART * analog
+    length_of(digital, analog)
 }
 
 // Checks each alarm in number order and answers the first refusal, of a record that has the right length.

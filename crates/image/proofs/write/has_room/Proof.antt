@@ -1,7 +1,6 @@
 -- `image::write::has_room` meets its contract: each return takes the case that its test led to. Assumes nothing.
 use borrow.Author.Needs.{needs}
 use borrow.Author.Tests.{not-true, not-false}
-use native.Mathlib.Omega.{arith}
 use Rattle.wire.proofs.Laws.{most-true}
 use Rattle.image.specs.Internal.Write.{hasRoom}
 use Rattle.image.proofs.write.has_room.Statement.{statement}
@@ -11,39 +10,17 @@ returns : tie.Need-returns
 unfolding hasRoom
 returns c = simp (← c .before .is-bank .ensures, not-true (c .before .is-bank .result) (c .if1 .taken))
 
-mul-result : tie.Need-mul-result
-mul-result c =
+image-size-requires : tie.Need-image-size-requires
+image-size-requires c κs =
     let b = c .before in
     let a = b .before .args in
-    let most = most-true (a .digital) (a .analog) 12 12 (b .is-bank .ensures) (not-false (b .is-bank .result) (c .if1 .left)) in
-    omega arith
-
-add-result : tie.Need-add-result
-add-result c =
-    let b = c .before in
-    let a = b .before .args in
-    let most = most-true (a .digital) (a .analog) 12 12 (b .is-bank .ensures) (not-false (b .is-bank .result) (c .if1 .left)) in
-    omega arith
-
-mul-result-2 : tie.Need-mul-result-2
-mul-result-2 c =
-    let b = c .before in
-    let a = b .before .args in
-    let most = most-true (a .digital) (a .analog) 12 12 (b .is-bank .ensures) (not-false (b .is-bank .result) (c .if1 .left)) in
-    omega arith
-
-add-result-2 : tie.Need-add-result-2
-add-result-2 c =
-    let b = c .before in
-    let a = b .before .args in
-    let most = most-true (a .digital) (a .analog) 12 12 (b .is-bank .ensures) (not-false (b .is-bank .result) (c .if1 .left)) in
-    omega arith
+    most-true (a .digital) (a .analog) 12 12 (b .is-bank .ensures) (not-false (b .is-bank .result) (c .if1 .left))
 
 returns-2 : tie.Need-returns-2
 unfolding hasRoom
 returns-2 c =
-    let b = c .before .is-bank in
-    simp (← b .ensures, not-false (b .result) (c .if1 .left))
+    let b = c .before .before .is-bank in
+    simp (← b .ensures, not-false (b .result) (c .before .if1 .left), c .image-size .ensures)
 
 pub has-room-spec : {M : Type 1} → statement M
-has-room-spec = tie.close (tie.spec (λ c κs. search needs) returns mul-result add-result mul-result-2 add-result-2 returns-2)
+has-room-spec = tie.close (tie.spec (λ c κs. search needs) returns image-size-requires returns-2)
