@@ -17,7 +17,7 @@ use Rattle.settings.specs.declared.types.Settings.{Settings}
 use Rattle.settings.specs.declared.types.Form.{Form}
 use Rattle.settings.specs.declared.types.Form.the-variants.{Digital as DigitalForm, Analog as AnalogForm}
 use Rattle.settings.specs.declared.reply.Reply.the-variants.{Accepted}
-use Rattle.settings_record.specs.Record.{recordAt, digitalAlarm, analogAlarm, limitsAt, severitiesAt}
+use Rattle.settings_record.specs.Record.{wordPlace, sizeOf, severitiesAt, limitsAt, fieldsAt, recordAt}
 use Rattle.settings_record.specs.declared.record.Record.the-variants.{Alarm as Recorded}
 use Rattle.settings_record.proofs.Laws.{was-read}
 use Rattle.layout.specs.Internal.Block.{placed, settingsIn, settingsWords}
@@ -54,35 +54,35 @@ states-fresh =
 -- ---- settings from an image of bytes
 
 module _ (image : List ℕ) (b : T (areBytes image)) where
-  severity-lt : (at : ℕ) → at + 4 ≤ length image → number image at 4 < 4294967296
-  severity-lt at h = number-lt image at 4 b h
+  severity-lt : (at k : ℕ) → wordPlace at k + 4 ≤ length image → number image (wordPlace at k) 4 < 4294967296
+  severity-lt at k h = number-lt image (wordPlace at k) 4 b h
 
-  digital-alarm : (at : ℕ) → at + 9 ≤ length image → getD image at 0 < 8 → Kept DigitalForm (digitalAlarm image at)
-  unfolding digitalAlarm
-  digital-alarm at h f = digital-kept (getD image at 0) (number image (at + 5) 4) (number image (at + 1) 4) (omega arith) (severity-lt (at + 1) (omega arith))
+  digital-alarm : (at : ℕ) → at + sizeOf DigitalForm ≤ length image → getD image at 0 < 8 → Kept DigitalForm (fieldsAt DigitalForm image at)
+  unfolding fieldsAt
+  digital-alarm at h f = digital-kept (getD image at 0) _ _ (omega arith) (severity-lt at 0 (omega arith))
 
   reals : (at : ℕ) → Reals (limitsAt image at)
   unfolding limitsAt
   reals at =
       record {
-        hh = ofBits-fits binary32 (number image at 4);
-        h = ofBits-fits binary32 (number image (at + 4) 4);
-        l = ofBits-fits binary32 (number image (at + 8) 4);
-        ll = ofBits-fits binary32 (number image (at + 12) 4);
-        deadband = ofBits-fits binary32 (number image (at + 16) 4);
-        rocpos = ofBits-fits binary32 (number image (at + 20) 4);
-        rocneg = ofBits-fits binary32 (number image (at + 24) 4);
+        hh = ofBits-fits binary32 (number image (wordPlace at 6) 4);
+        h = ofBits-fits binary32 (number image (wordPlace at 7) 4);
+        l = ofBits-fits binary32 (number image (wordPlace at 8) 4);
+        ll = ofBits-fits binary32 (number image (wordPlace at 9) 4);
+        deadband = ofBits-fits binary32 (number image (wordPlace at 10) 4);
+        rocpos = ofBits-fits binary32 (number image (wordPlace at 11) 4);
+        rocneg = ofBits-fits binary32 (number image (wordPlace at 12) 4);
       }
 
-  analog-alarm : (at : ℕ) → at + 61 ≤ length image → getD image at 0 < 32 → Kept AnalogForm (analogAlarm image at)
-  unfolding analogAlarm severitiesAt
+  analog-alarm : (at : ℕ) → at + sizeOf AnalogForm ≤ length image → getD image at 0 < 32 → Kept AnalogForm (fieldsAt AnalogForm image at)
+  unfolding fieldsAt severitiesAt
   analog-alarm at h f =
-      analog-kept (getD image at 0) (number image (at + 57) 4) (limitsAt image (at + 25)) (severitiesAt image (at + 1)) (number image (at + 53) 4)
-      (omega arith) (reals (at + 25)) (severity-lt (at + 1) (omega arith)) (severity-lt (at + 1 + 8) (omega arith)) (severity-lt (at + 1 + 16) (omega arith))
+      analog-kept (getD image at 0) _ (limitsAt image at) (severitiesAt image at) _
+      (omega arith) (reals at) (severity-lt at 0 (omega arith)) (severity-lt at 2 (omega arith)) (severity-lt at 4 (omega arith))
 
   -- an alarm that was read is said again by its words
   each : (form : Form) (at : ℕ) (a : Alarm) (next : ℕ) → recordAt form image at ≡ Recorded a next → Kept form a
-  unfolding digitalAlarm analogAlarm
+  unfolding fieldsAt
   each DigitalForm at a next e =
       let r = was-read DigitalForm image at e in
       subst (Kept DigitalForm) (r .alarm) (digital-alarm at (r .whole) (ltb-true _ 8 (r .passed .0)))

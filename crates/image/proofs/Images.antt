@@ -1,16 +1,16 @@
 -- Laws of images: lengths, and the records of a section one by one. Assumes nothing.
-use mathlib.Core.Path.{_≡_, refl, sym, ap, subst, _∙_}
+use mathlib.Core.Path.{_≡_, refl, sym, ap, _∙_}
 use mathlib.Core.List.{List, [], _∷_, _++_}
 use Prim.Native.Nat.{ℕ, suc, _+_, _*_, _≤_, _<_}
 use native.Mathlib.Nat.{le-trans, mul-suc, mul-le-mul-left, zero-add}
 use mathlib.Core.Bool.{true, _&&_}
-use lib.Dec.{T, leb, leb→le}
-use lib.Ieee.Fits.{and-l, and-r}
+use borrow.Author.Tests.{leb-true}
+use lib.Dec.{leb}
 use native.Mathlib.Numerals.{add-one}
 use native.Mathlib.Omega.{arith}
 use lib.ListN.{length, getD, take, length-append, length-take, length-drop, drop, drop-of-length-le}
 use lib.Seq.{slice, slice-cons, sets, sets-eq}
-use Rattle.wire.proofs.Laws.{length-words, sets-append}
+use Rattle.wire.proofs.Laws.{length-words, sets-append, and-true, most-true}
 use Rattle.image.specs.Internal.Write.{digitalBytes, analogBytes, severityWords, limitWords, kindBytes, recordBytes, recordsBytes, sectionBytes, imageOf, sizeOfImage, hasRoom}
 use Rattle.settings_record.specs.Record.{sizeOf}
 use Rattle.settings.specs.Alarm.{blank}
@@ -23,11 +23,11 @@ use Rattle.settings.specs.declared.types.Form.the-variants.{Digital as DigitalF
 use Rattle.settings.specs.declared.types.Limits.{Limits}
 use Rattle.settings.specs.declared.types.Severities.{Severities}
 
-pub length-digital : (flags severity duration : ℕ) → length (digitalBytes flags severity duration) ≡ 9
+pub length-digital : (flags severity duration : ℕ) → length (digitalBytes flags severity duration) ≡ sizeOf DigitalForm
 unfolding digitalBytes
 length-digital flags severity duration = ap suc (length-words (severity ∷ duration ∷ []))
 
-pub length-analog : (flags : ℕ) (g : Limits) (s : Severities) (period duration : ℕ) → length (analogBytes flags g s period duration) ≡ 61
+pub length-analog : (flags : ℕ) (g : Limits) (s : Severities) (period duration : ℕ) → length (analogBytes flags g s period duration) ≡ sizeOf AnalogForm
 unfolding analogBytes
 length-analog flags g s period duration = ap suc (length-words (severityWords s ++ (limitWords g ++ (period ∷ duration ∷ []))))
 
@@ -70,12 +70,15 @@ records-most : (form : Form) (xs : List Alarm) → length (recordsBytes form xs)
 unfolding recordsBytes
 records-most form [] = omega arith
 records-most form (a ∷ xs) =
-    omega (arith, length-append (recordBytes form a) (recordsBytes form xs), kind-most form (a .kind) (a .flags) (a .duration), records-most form xs, mul-suc (sizeOf form) (length xs))
+    let first = kind-most form (a .kind) (a .flags) (a .duration) in
+    let rest = records-most form xs in
+    omega (arith, length-append (recordBytes form a) (recordsBytes form xs), mul-suc (sizeOf form) (length xs))
 
 slice-most : (first n : ℕ) (alarms : List Alarm) → length (slice first (first + n) alarms) ≤ n
 slice-most first n alarms = simp (length-drop, length-take) (omega arith)
 
-pub section-length : (form : Form) (first n : ℕ) (alarms : List Alarm) → length (sectionBytes form first n alarms) ≡ suc (length (recordsBytes form (slice first (first + n) alarms)))
+pub section-length : (form : Form) (first n : ℕ) (alarms : List Alarm)
+    → length (sectionBytes form first n alarms) ≡ suc (length (recordsBytes form (slice first (first + n) alarms)))
 unfolding sectionBytes
 section-length form first n alarms = refl
 
@@ -89,18 +92,14 @@ section-room form first n alarms =
 pub record Room (d a n : ℕ) : Type 0 where
   pub digital : d ≤ 12
   pub analog : a ≤ 12
-  pub image : 2 + 9 * d + 61 * a ≤ n
+  pub image : sizeOfImage d a ≤ n
 
 pub room : (d a n : ℕ) → hasRoom d a n ≡ true → Room d a n
 unfolding hasRoom
 room d a n e =
-    let h : T (leb d 12 && leb a 12 && leb (sizeOfImage d a) n) = subst T (sym e) tt in
-    let h₀ = and-l (leb d 12 && leb a 12) (leb (sizeOfImage d a) n) h in
-    record {
-      digital = leb→le d 12 (and-l (leb d 12) (leb a 12) h₀);
-      analog = leb→le a 12 (and-r (leb d 12) (leb a 12) h₀);
-      image = leb→le (sizeOfImage d a) n (and-r (leb d 12 && leb a 12) (leb (sizeOfImage d a) n) h);
-    }
+    let size = and-true (leb d 12 && leb a 12) (leb (sizeOfImage d a) n) e in
+    let most = most-true d a 12 12 refl (size .0) in
+    record { digital = most .0; analog = most .1; image = leb-true (sizeOfImage d a) n (size .1) }
 
 -- what is written from the start stands in front of the rest
 pub sets-front : (xs out : List ℕ) → length xs ≤ length out → sets out 0 xs ≡ xs ++ drop (length xs) out
@@ -123,7 +122,9 @@ pub image-front : (s : Settings) (out : List ℕ) {l₁ l₂ : List ℕ} {n : �
     → l₂ ≡ imageOf s ++ drop (length (imageOf s)) out
 unfolding imageOf
 image-front s out r e f g =
+    let first = section-room DigitalForm 0 (s .digital) (s .alarms) in
+    let second = section-room AnalogForm (s .digital) (s .analog) (s .alarms) in
     let fits : length (digitalSection s ++ analogSection s) ≤ length out =
-    omega (arith, length-append (digitalSection s) (analogSection s), section-room DigitalForm 0 (s .digital) (s .alarms), section-room AnalogForm (s .digital) (s .analog) (s .alarms), r .image)
+    omega (arith, length-append (digitalSection s) (analogSection s), r .image)
     in
     g ∙ rw (e, f) (sets-append out 0 (digitalSection s) (analogSection s)) ∙ sets-front (digitalSection s ++ analogSection s) out fits

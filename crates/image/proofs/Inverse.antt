@@ -17,7 +17,7 @@ use Rattle.wire.proofs.Laws.{part-suc, wordsAt, words-back, number-lt}
 use Rattle.wire.proofs.Reals.{pattern-back}
 use Rattle.settings_record.proofs.Laws.{was-read}
 use Rattle.settings_record.proofs.Sound.{sound}
-use Rattle.settings_record.specs.Record.{digitalAlarm, severitiesAt, limitsAt, analogAlarm, sizeOf, recordAt}
+use Rattle.settings_record.specs.Record.{wordPlace, sizeOf, severitiesAt, limitsAt, fieldsAt, recordAt}
 use Rattle.image.specs.Internal.Write.{severityWords, limitWords, digitalBytes, analogBytes, kindBytes, recordBytes}
 use Rattle.settings.specs.Internal.Sound.{BoundedReals, SoundAlarm}
 use Rattle.settings.specs.declared.types.Alarm.{Alarm}
@@ -38,36 +38,38 @@ module _ (image : List ℕ) (b : T (areBytes image)) (at : ℕ) where
       ap (λ (l : List ℕ). getD image at 0 ∷ l) (words-back image b (at + 1) k (omega arith) ∙ rw add-one)
       ∙ sym (part-suc image at (4 * k) (omega arith))
 
-  digital-bytes : at + 9 ≤ length image → recordBytes DigitalForm (digitalAlarm image at) ≡ part image at 9
-  unfolding digitalAlarm kindBytes digitalBytes wordsAt
+  digital-bytes : at + sizeOf DigitalForm ≤ length image → recordBytes DigitalForm (fieldsAt DigitalForm image at) ≡ part image at (sizeOf DigitalForm)
+  unfolding fieldsAt kindBytes digitalBytes wordsAt
   digital-bytes h = rw (← add-assoc at 1 4) (record-part 2 h)
 
-  real-back : (i : ℕ) → i + 4 ≤ length image → bounded (realAt image i) ≡ true → toBits binary32 (realAt image i) ≡ number image i 4
-  real-back i h e = pattern-back (number image i 4) (number-lt image i 4 b h) e
+  real-back : (k : ℕ) → wordPlace at k + 4 ≤ length image → bounded (realAt image (wordPlace at k)) ≡ true
+      → toBits binary32 (realAt image (wordPlace at k)) ≡ number image (wordPlace at k) 4
+  real-back k h e = pattern-back (number image (wordPlace at k) 4) (number-lt image (wordPlace at k) 4 b h) e
 
   -- the words of an analog record: each REAL's pattern is the number that it was read from
-  analog-words : at + 61 ≤ length image → BoundedReals (limitsAt image (at + 25))
-      → severityWords (severitiesAt image (at + 1)) ++ (limitWords (limitsAt image (at + 25)) ++ (number image (at + 53) 4 ∷ number image (at + 57) 4 ∷ []))
-      ≡ wordsAt image (at + 1) 15
+  analog-words : at + sizeOf AnalogForm ≤ length image → BoundedReals (limitsAt image at)
+      → severityWords (severitiesAt image at) ++ (limitWords (limitsAt image at) ++ (number image (wordPlace at 13) 4 ∷ number image (wordPlace at 14) 4 ∷ []))
+      ≡ wordsAt image (wordPlace at 0) 15
   unfolding severitiesAt limitsAt wordsAt
   analog-words h g =
       rw (
-        real-back (at + 25) (omega arith) (g .hh),
-        real-back (at + 25 + 4) (omega arith) (g .h),
-        real-back (at + 25 + 8) (omega arith) (g .l),
-        real-back (at + 25 + 12) (omega arith) (g .ll),
-        real-back (at + 25 + 16) (omega arith) (g .deadband),
-        real-back (at + 25 + 20) (omega arith) (g .rocpos),
-        real-back (at + 25 + 24) (omega arith) (g .rocneg),
+        real-back 6 (omega arith) (g .hh),
+        real-back 7 (omega arith) (g .h),
+        real-back 8 (omega arith) (g .l),
+        real-back 9 (omega arith) (g .ll),
+        real-back 10 (omega arith) (g .deadband),
+        real-back 11 (omega arith) (g .rocpos),
+        real-back 12 (omega arith) (g .rocneg),
       )
       (simp add-assoc)
 
-  analog-bytes : at + 61 ≤ length image → BoundedReals (limitsAt image (at + 25)) → recordBytes AnalogForm (analogAlarm image at) ≡ part image at 61
-  unfolding analogAlarm kindBytes analogBytes
+  analog-bytes : at + sizeOf AnalogForm ≤ length image → BoundedReals (limitsAt image at)
+      → recordBytes AnalogForm (fieldsAt AnalogForm image at) ≡ part image at (sizeOf AnalogForm)
+  unfolding fieldsAt kindBytes analogBytes
   analog-bytes h g = ap (λ (l : List ℕ). getD image at 0 ∷ words l) (analog-words h g) ∙ record-part 15 h
 
-  analog-bounded : {a : Alarm} → analogAlarm image at ≡ a → SoundAlarm AnalogForm a → BoundedReals (limitsAt image (at + 25))
-  unfolding analogAlarm
+  analog-bounded : {a : Alarm} → fieldsAt AnalogForm image at ≡ a → SoundAlarm AnalogForm a → BoundedReals (limitsAt image at)
+  unfolding fieldsAt
   analog-bounded e s = (rw (← e) at s) .within
 
 -- of a record of either form

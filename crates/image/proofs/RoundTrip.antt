@@ -166,12 +166,10 @@ kept-slice : (n : ℕ) (xs ys : List Alarm) → take n xs ≡ take n ys → slic
 kept-slice n xs ys e = rw zero-add e
 
 module _ (image : List ℕ) (b : T (areBytes image)) where
-  whole-image : (d a : ℕ) {next end : ℕ} → next ≡ 0 + (1 + 9 * d) → end ≡ next + (1 + 61 * a) → end ≤ length image → length image ≤ end
-      → part image 0 (1 + 9 * d) ++ part image next (1 + 61 * a) ≡ image
-  whole-image d a {next} {end} p q l m =
-      let n : length image ≤ 1 + 9 * d + (1 + 61 * a) = omega arith in
-      ap (λ (j : ℕ). part image 0 (1 + 9 * d) ++ part image j (1 + 61 * a)) p
-      ∙ sym (part-add image 0 (1 + 9 * d) (1 + 61 * a)) ∙ take-all (1 + 9 * d + (1 + 61 * a)) image n
+  whole-image : (n m : ℕ) {next end : ℕ} → next ≡ 0 + n → end ≡ next + m → end ≤ length image → length image ≤ end
+      → part image 0 n ++ part image next m ≡ image
+  whole-image n m {next} {end} p q l h =
+      ap (λ (j : ℕ). part image 0 n ++ part image j m) p ∙ sym (part-add image 0 n m) ∙ take-all (n + m) image (omega arith)
 
   back-sections : (d a next end : ℕ) (alarms : List Alarm) (filled : List Alarm)
       → SectionRead DigitalForm image 0 0 blanks alarms d next → SectionRead AnalogForm image d next alarms filled a end → length image ≤ end
@@ -183,7 +181,7 @@ module _ (image : List ℕ) (b : T (areBytes image)) where
         back =
             ap₂ (λ (u v : List ℕ). u ++ v)
             (ap (λ (l : List Alarm). d ∷ recordsBytes DigitalForm l) (kept-slice d filled alarms (y .kept)) ∙ x .bytes) (y .bytes)
-            ∙ whole-image d a (x .past) (y .past) (y .whole) h;
+            ∙ whole-image (1 + sizeOf DigitalForm * d) (1 + sizeOf AnalogForm * a) (x .past) (y .past) (y .whole) h;
       }
 
   -- the analog section and the end

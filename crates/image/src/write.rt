@@ -4,7 +4,8 @@ ghost use Prim.Native.Nat.{_+_, _≤_, _<_};
 ghost use lib.ListN.{length};
 ghost use lib.Seq.{sets, slice};
 ghost use Rattle.wire.specs.Internal.Words.{words};
-ghost use Rattle.image.specs.Internal.Write.{severityWords, limitWords, digitalBytes, analogBytes, recordBytes, recordsBytes, sectionBytes, readAs, hasRoom, writtenOf, imageBuffer, writeOf, writeBuffer};
+ghost use Rattle.settings_record.specs.Record.{wordPlace, sizeOf};
+ghost use Rattle.image.specs.Internal.Write.{severityWords, limitWords, digitalBytes, analogBytes, recordBytes, recordsBytes, sectionBytes, readAs, sizeOfImage, hasRoom, writtenOf, imageBuffer, writeOf, writeBuffer};
 ghost use Rattle.layout.specs.Internal.Block.{settingsIn};
 use layout::block::is_block;
 use layout::read::alarm_in;
@@ -12,6 +13,7 @@ use layout::sizes::ALARM_WORDS;
 use layout::sizes::ANALOG_COUNT;
 use layout::sizes::DIGITAL_COUNT;
 use layout::sizes::SETTINGS_HEAD;
+use settings::counts::is_bank;
 use settings::refusals::IMAGE_TOO_LONG;
 use settings::refusals::NO_BANK;
 use settings::reply::Refusal;
@@ -20,9 +22,31 @@ use settings::types::Form;
 use settings::types::Kind;
 use settings::types::Limits;
 use settings::types::Severities;
+use settings_record::fields::ANALOG_DURATION;
+use settings_record::fields::ANALOG_SIZE;
+use settings_record::fields::DEADBAND;
+use settings_record::fields::DIGITAL_DURATION;
+use settings_record::fields::DIGITAL_SIZE;
+use settings_record::fields::LIMIT_H;
+use settings_record::fields::LIMIT_HH;
+use settings_record::fields::LIMIT_L;
+use settings_record::fields::LIMIT_LL;
+use settings_record::fields::LIMIT_ROCNEG;
+use settings_record::fields::LIMIT_ROCPOS;
+use settings_record::fields::PERIOD;
+use settings_record::fields::SEVERITY;
+use settings_record::fields::SEVERITY_H;
+use settings_record::fields::SEVERITY_HH;
+use settings_record::fields::SEVERITY_L;
+use settings_record::fields::SEVERITY_LL;
+use settings_record::fields::SEVERITY_ROCNEG;
+use settings_record::fields::SEVERITY_ROCPOS;
 use wire::number::put_u8;
 use wire::number::put_u32;
 use wire::real::put_real;
+
+// The bytes of the two counts.
+const COUNTS: usize = 2;
 
 // The length of the image that was written, or the refusal.
 pub enum Written {
@@ -31,37 +55,37 @@ pub enum Written {
 }
 
 fn put_severities(out: &mut [u8], at: usize, s: Severities)
-    requires { ⌜ at + 24 ≤ length (now out) ⌝ }
-    ensures { λ _. ⌜ now (out .exit) ≡ sets (now (out .entry)) at (words (severityWords s)) ⌝ }
+    requires { ⌜ at + sizeOf Form.Analog ≤ length (now out) ⌝ }
+    ensures { λ _. ⌜ now (out .exit) ≡ sets (now (out .entry)) (wordPlace at 0) (words (severityWords s)) ⌝ }
 {
-    put_u32(out, at, s.hh);
-    put_u32(out, at + 4, s.h);
-    put_u32(out, at + 8, s.l);
-    put_u32(out, at + 12, s.ll);
-    put_u32(out, at + 16, s.rocpos);
-    put_u32(out, at + 20, s.rocneg);
+    put_u32(out, at + SEVERITY_HH, s.hh);
+    put_u32(out, at + SEVERITY_H, s.h);
+    put_u32(out, at + SEVERITY_L, s.l);
+    put_u32(out, at + SEVERITY_LL, s.ll);
+    put_u32(out, at + SEVERITY_ROCPOS, s.rocpos);
+    put_u32(out, at + SEVERITY_ROCNEG, s.rocneg);
 }
 
 fn put_limits(out: &mut [u8], at: usize, g: Limits)
-    requires { ⌜ at + 28 ≤ length (now out) ⌝ }
-    ensures { λ _. ⌜ now (out .exit) ≡ sets (now (out .entry)) at (words (limitWords g)) ⌝ }
+    requires { ⌜ at + sizeOf Form.Analog ≤ length (now out) ⌝ }
+    ensures { λ _. ⌜ now (out .exit) ≡ sets (now (out .entry)) (wordPlace at 6) (words (limitWords g)) ⌝ }
 {
-    put_real(out, at, g.hh);
-    put_real(out, at + 4, g.h);
-    put_real(out, at + 8, g.l);
-    put_real(out, at + 12, g.ll);
-    put_real(out, at + 16, g.deadband);
-    put_real(out, at + 20, g.rocpos);
-    put_real(out, at + 24, g.rocneg);
+    put_real(out, at + LIMIT_HH, g.hh);
+    put_real(out, at + LIMIT_H, g.h);
+    put_real(out, at + LIMIT_L, g.l);
+    put_real(out, at + LIMIT_LL, g.ll);
+    put_real(out, at + DEADBAND, g.deadband);
+    put_real(out, at + LIMIT_ROCPOS, g.rocpos);
+    put_real(out, at + LIMIT_ROCNEG, g.rocneg);
 }
 
 fn put_digital(out: &mut [u8], at: usize, flags: u8, severity: u32, duration: u32)
-    requires { ⌜ at + 9 ≤ length (now out) ⌝ }
+    requires { ⌜ at + sizeOf Form.Digital ≤ length (now out) ⌝ }
     ensures { λ _. ⌜ now (out .exit) ≡ sets (now (out .entry)) at (digitalBytes flags severity duration) ⌝ }
 {
     put_u8(out, at, flags);
-    put_u32(out, at + 1, severity);
-    put_u32(out, at + 5, duration);
+    put_u32(out, at + SEVERITY, severity);
+    put_u32(out, at + DIGITAL_DURATION, duration);
 }
 
 fn put_analog(
@@ -73,14 +97,14 @@ fn put_analog(
     period: u32,
     duration: u32,
 )
-    requires { ⌜ at + 61 ≤ length (now out) ⌝ }
+    requires { ⌜ at + sizeOf Form.Analog ≤ length (now out) ⌝ }
     ensures { λ _. ⌜ now (out .exit) ≡ sets (now (out .entry)) at (analogBytes flags g s period duration) ⌝ }
 {
     put_u8(out, at, flags);
-    put_severities(out, at + 1, s);
-    put_limits(out, at + 25, g);
-    put_u32(out, at + 53, period);
-    put_u32(out, at + 57, duration);
+    put_severities(out, at, s);
+    put_limits(out, at, g);
+    put_u32(out, at + PERIOD, period);
+    put_u32(out, at + ANALOG_DURATION, duration);
 }
 
 // Writes an alarm's record and answers the offset past it.
@@ -96,7 +120,7 @@ fn put_record(out: &mut [u8], at: usize, form: Form, alarm: Alarm) -> usize
         Form::Digital => match kind {
             Kind::Digital { severity } => {
                 put_digital(out, at, flags, severity, duration);
-                at + 9
+                at + DIGITAL_SIZE
             }
             Kind::Analog {
                 limits: _,
@@ -112,7 +136,7 @@ fn put_record(out: &mut [u8], at: usize, form: Form, alarm: Alarm) -> usize
                 period,
             } => {
                 put_analog(out, at, flags, limits, severities, period, duration);
-                at + 61
+                at + ANALOG_SIZE
             }
         },
     }
@@ -159,17 +183,22 @@ fn put_section(
     put_records(out, at + 1, form, first, first + count, words)
 }
 
+// The length of the image of settings with so many alarms.
+fn image_size(digital: usize, analog: usize) -> usize
+    requires { ⌜ (digital ≤ 12) × (analog ≤ 12) ⌝ }
+    ensures { λ r. ⌜ r ≡ sizeOfImage digital analog ⌝ }
+{
+    COUNTS + DIGITAL_SIZE * digital + ANALOG_SIZE * analog
+}
+
 // Whether settings with so many alarms have an image of at most `len` bytes.
 fn has_room(digital: usize, analog: usize, len: usize) -> bool
     ensures { λ r. ⌜ r ≡ hasRoom digital analog len ⌝ }
 {
-    if 12 < digital {
+    if !is_bank(digital, analog) {
         return false;
     }
-    if 12 < analog {
-        return false;
-    }
-    2 + 9 * digital + 61 * analog <= len
+    image_size(digital, analog) <= len
 }
 
 // Writes the image of the settings in a block.

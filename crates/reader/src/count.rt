@@ -1,6 +1,7 @@
 // The count byte in front of a section.
 ghost use mathlib.Core.Path.{_≡_};
 ghost use Rattle.reader.specs.Count.{countAt};
+use settings::counts::MOST;
 use settings::refusals::INCOMPLETE;
 use settings::refusals::TOO_MANY;
 use settings::reply::Refusal;
@@ -20,9 +21,9 @@ pub fn count_at(image: &[u8], at: usize) -> Count
             place: at,
         });
     }
-    let n = image[at];
-    if n <= 12 {
-        Count::Alarms(n as usize, at + 1)
+    let n = image[at] as usize;
+    if n <= MOST {
+        Count::Alarms(n, at + 1)
     } else {
         Count::Refused(Refusal {
             number: TOO_MANY,

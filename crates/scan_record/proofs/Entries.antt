@@ -5,10 +5,10 @@ use mathlib.Core.Bool.{Bool, true, false, _&&_, cond}
 use Prim.Native.Nat.{ℕ, zero, suc, _+_, _-_, _≤_, _<_}
 use native.Mathlib.Nat.{sub-self}
 use native.Mathlib.Omega.{arith}
-use borrow.Author.Tests.{ltb-true, ltb-false, leb-true, eqb-true}
+use borrow.Author.Tests.{ltb-true, ltb-false, eqb-true}
 use lib.Dec.{ltb, leb, eqb}
 use lib.ListN.{length}
-use Rattle.wire.proofs.Laws.{and-true}
+use Rattle.wire.proofs.Laws.{and-true, most-true}
 use Rattle.wire.specs.Bits.{setsOnly}
 use Rattle.settings.specs.Refusals.{unknownCommand, wrongLength, earlierTime, checked}
 use Rattle.settings.specs.declared.types.Form.{Form}
@@ -98,12 +98,6 @@ module _ (bytes : List ℕ) (digital : ℕ) where
           here-or-later (rw o at (r ∙ sym whole)) (later next n (rw r at e)) (ltb place p) refl
       go (Refused x) r later = let f = rw r at e in let z : _≡_ {A = ℕ} 0 1 = cc in absurd (omega arith)
 
--- the counts that pass the test for a bank's
-pub bank-says : (digital analog : ℕ) {r : Bool} → r ≡ leb digital 12 && leb analog 12 → r ≡ true → (digital ≤ 12) × (analog ≤ 12)
-bank-says digital analog e f =
-    let most = and-true (leb digital 12) (leb analog 12) (sym e ∙ f) in
-    (leb-true digital 12 (most .0), leb-true analog 12 (most .1))
-
 -- what a record of the right length says of the numbers of alarms
 pub record Whole (digital analog len : ℕ) : Type 0 where
   pub digital-most : digital ≤ 12
@@ -114,7 +108,7 @@ pub whole-says : (digital analog len : ℕ) → whole digital analog len ≡ tru
 unfolding whole
 whole-says digital analog len h =
     let size = and-true (leb digital 12 && leb analog 12) (eqb len (recordSize digital analog)) h in
-    let most = bank-says digital analog refl (size .0) in
+    let most = most-true digital analog 12 12 refl (size .0) in
     record {
       digital-most = most .0;
       analog-most = most .1;

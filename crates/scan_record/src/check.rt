@@ -1,8 +1,6 @@
 // The check of a whole scan record.
 ghost use mathlib.Core.Path.{_≡_};
 ghost use Prim.Native.Nat.{_+_, _≤_};
-ghost use mathlib.Core.Bool.{_&&_};
-ghost use lib.Dec.{leb};
 ghost use lib.ListN.{length};
 ghost use Rattle.scan_record.specs.Part.{recordSize};
 ghost use Rattle.settings.specs.Alarm.{formAt};
@@ -13,6 +11,7 @@ use crate::entry::entry_at;
 use crate::part::ANALOG_PART;
 use crate::part::DIGITAL_PART;
 use crate::part::TIME_SIZE;
+use settings::counts::is_bank;
 use settings::refusals::EARLIER_TIME;
 use settings::refusals::WRONG_LENGTH;
 use settings::reply::Refusal;
@@ -31,11 +30,11 @@ pub fn form_at(digital: usize, place: usize) -> Form
     }
 }
 
-// Whether so many alarms are a bank's: at most 12 of each kind.
-fn is_bank(digital: usize, analog: usize) -> bool
-    ensures { λ r. ⌜ r ≡ leb digital 12 && leb analog 12 ⌝ }
+fn length_of(digital: usize, analog: usize) -> usize
+    requires { ⌜ (digital ≤ 12) × (analog ≤ 12) ⌝ }
+    ensures { λ r. ⌜ r ≡ recordSize digital analog ⌝ }
 {
-    (digital <= 12) & (analog <= 12)
+    TIME_SIZE + DIGITAL_PART * digital + ANALOG_PART * analog
 }
 
 // The length of the records of a bank with so many alarms.
@@ -45,7 +44,7 @@ pub fn record_length(digital: usize, analog: usize) -> usize
     if !is_bank(digital, analog) {
         return TIME_SIZE;
     }
-    TIME_SIZE + DIGITAL_PART * digital + ANALOG_PART * analog
+    length_of(digital, analog)
 }
 
 // Checks each alarm in number order and answers the first refusal, of a record that has the right length.

@@ -2,7 +2,7 @@
 use mathlib.Core.Path.{_≡_, subst}
 use mathlib.Core.List.{List}
 use mathlib.Core.Bool.{Bool, true, false, not, _&&_, _||_, false≢true}
-use Prim.Native.Nat.{ℕ, _+_}
+use Prim.Native.Nat.{ℕ}
 use borrow.Author.Tests.{ltb-true, leb-true}
 use lib.Dec.{leb}
 use lib.ListN.{getD}
@@ -15,7 +15,7 @@ use Rattle.settings.specs.Internal.Sound.{Bounded, Rising, Banded, SoundAlarm}
 use Rattle.settings.specs.declared.types.Alarm.{Alarm}
 use Rattle.settings.specs.declared.types.Form.{Form}
 use Rattle.settings.specs.declared.types.Form.the-variants.{Digital as DigitalForm, Analog as AnalogForm}
-use Rattle.settings_record.specs.Record.{digitalAlarm, limitsAt, analogAlarm, recordAt}
+use Rattle.settings_record.specs.Record.{wordPlace, limitsAt, fieldsAt, recordAt}
 use Rattle.settings_record.specs.declared.record.Record.the-variants.{Alarm as Recorded}
 use Rattle.settings_record.proofs.Laws.{was-read}
 
@@ -85,16 +85,16 @@ module _ {X : Type 0} (n : Numbers X) where
 
 -- of a record of either form
 pub sound : (form : Form) (image : List ℕ) (at : ℕ) {a : Alarm} {next : ℕ} → recordAt form image at ≡ Recorded a next → SoundAlarm form a
-unfolding digitalAlarm analogAlarm inRange apart
+unfolding fieldsAt inRange apart
 sound DigitalForm image at e =
     let r = was-read DigitalForm image at e in
     subst (SoundAlarm DigitalForm) (r .alarm) (record { known = ltb-true _ 8 (r .passed .0); duration-range = leb-true _ 2147483647 (r .passed .1 .0) })
 sound AnalogForm image at e =
     let r = was-read AnalogForm image at e in
     let flags = getD image at 0 in
-    let g = limitsAt image (at + 25) in
-    let n₁ = and-true _ (durationInRange (number image (at + 57) 4)) (r .passed .1 .0) in
-    let n₀ = and-true (limitsInRange reals (realLimit g) (g .deadband)) (leb (number image (at + 53) 4) 3600000) (n₁ .0) in
+    let g = limitsAt image at in
+    let n₁ = and-true _ (durationInRange (number image (wordPlace at 14) 4)) (r .passed .1 .0) in
+    let n₀ = and-true (limitsInRange reals (realLimit g) (g .deadband)) (leb (number image (wordPlace at 13) 4) 3600000) (n₁ .0) in
     let n = in-range reals (realLimit g) (g .deadband) (n₀ .0) in
     let o = and-true (rising reals flags (realLimit g)) (banded reals flags (realLimit g) (g .deadband)) (r .passed .1 .1 .0) in
     subst (SoundAlarm AnalogForm) (r .alarm)

@@ -1,5 +1,5 @@
 -- An alarm's record: its fields by offset, and the first refusal that applies. Each refusal's place is the record's offset.
-use Prim.Native.Nat.{ℕ, _+_}
+use Prim.Native.Nat.{ℕ, _+_, _*_}
 use mathlib.Core.List.{List, [], _∷_}
 use mathlib.Core.Bool.{Bool}
 use lib.Dec.{ltb, leb}
@@ -21,41 +21,35 @@ use Rattle.settings.specs.declared.reply.Refusal.{Refusal}
 use Rattle.settings_record.specs.declared.record.Record.{Record}
 use Rattle.settings_record.specs.declared.record.Record.the-variants.{Alarm as Read, Refused}
 
--- digital, 9 bytes: flags, Severity, MinDuration
-unfoldable pub digitalAlarm : List ℕ → ℕ → Alarm
-digitalAlarm image at =
-    record { flags = getD image at 0; duration = number image (at + 5) 4; kind = Digital (number image (at + 1) 4) }
+-- where the k-th word of a record stands, behind the byte of flags
+abbrev pub wordPlace : ℕ → ℕ → ℕ
+wordPlace at k = at + (1 + 4 * k)
+
+-- how many bytes a record has: two words, or fifteen
+abbrev pub sizeOf : Form → ℕ
+sizeOf DigitalForm = wordPlace 0 2
+sizeOf AnalogForm = wordPlace 0 15
 
 -- six severities in the order HH, H, L, LL, ROCPos, ROCNeg
 unfoldable pub severitiesAt : List ℕ → ℕ → Severities
-severitiesAt s at =
-    let n : ℕ → ℕ = λ o. number s o 4 in
-    record { hh = n at; h = n (at + 4); l = n (at + 8); ll = n (at + 12); rocpos = n (at + 16); rocneg = n (at + 20) }
+severitiesAt image at =
+    let n : ℕ → ℕ = λ k. number image (wordPlace at k) 4 in
+    record { hh = n 0; h = n 1; l = n 2; ll = n 3; rocpos = n 4; rocneg = n 5 }
 
 -- the limits HH, H, L, LL, then Deadband, ROCPosLimit, ROCNegLimit
 unfoldable pub limitsAt : List ℕ → ℕ → Limits
-limitsAt s at =
-    let r : ℕ → Float = λ o. realAt s o in
-    record { hh = r at; h = r (at + 4); l = r (at + 8); ll = r (at + 12); deadband = r (at + 16); rocpos = r (at + 20); rocneg = r (at + 24) }
+limitsAt image at =
+    let r : ℕ → Float = λ k. realAt image (wordPlace at k) in
+    record { hh = r 6; h = r 7; l = r 8; ll = r 9; deadband = r 10; rocpos = r 11; rocneg = r 12 }
 
--- analog, 61 bytes: flags, severities, REALs, ROCPeriod, MinDuration
-unfoldable pub analogAlarm : List ℕ → ℕ → Alarm
-analogAlarm image at =
-    record {
-      flags = getD image at 0;
-      duration = number image (at + 57) 4;
-      kind = Analog (limitsAt image (at + 25)) (severitiesAt image (at + 1)) (number image (at + 53) 4);
-    }
-
--- how many bytes a record has
-abbrev pub sizeOf : Form → ℕ
-sizeOf DigitalForm = 9
-sizeOf AnalogForm = 61
-
--- the alarm that a record's fields are
-abbrev pub fieldsAt : Form → List ℕ → ℕ → Alarm
-fieldsAt DigitalForm image at = digitalAlarm image at
-fieldsAt AnalogForm image at = analogAlarm image at
+-- the alarm of a record. Digital: flags, Severity, MinDuration; analog: flags, severities, REALs, ROCPeriod, MinDuration
+unfoldable pub fieldsAt : Form → List ℕ → ℕ → Alarm
+fieldsAt DigitalForm image at =
+    let n : ℕ → ℕ = λ k. number image (wordPlace at k) 4 in
+    record { flags = getD image at 0; duration = n 1; kind = Digital (n 0) }
+fieldsAt AnalogForm image at =
+    let n : ℕ → ℕ = λ k. number image (wordPlace at k) 4 in
+    record { flags = getD image at 0; duration = n 14; kind = Analog (limitsAt image at) (severitiesAt image at) (n 13) }
 
 -- 3 a flag above bit 2, or above bit 4 of an analog alarm; 4 a number out of its range; 5 the order of levels or Deadband
 abbrev pub checksOf : Kind → ℕ → ℕ → ℕ → List (Refusal × Bool)

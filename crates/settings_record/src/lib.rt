@@ -1,2 +1,3 @@
 // An alarm's record in a settings image.
+pub mod fields;
 pub mod record;

@@ -5,6 +5,25 @@ ghost use lib.ListN.{length};
 ghost use Rattle.settings.specs.Refusals.{refusal};
 ghost use Rattle.settings_record.specs.Record.{limitsAt, severitiesAt, sizeOf, recordAt};
 ghost use Rattle.settings_record.specs.Internal.Whole.{wholeRecord};
+use crate::fields::ANALOG_DURATION;
+use crate::fields::ANALOG_SIZE;
+use crate::fields::DEADBAND;
+use crate::fields::DIGITAL_DURATION;
+use crate::fields::DIGITAL_SIZE;
+use crate::fields::LIMIT_H;
+use crate::fields::LIMIT_HH;
+use crate::fields::LIMIT_L;
+use crate::fields::LIMIT_LL;
+use crate::fields::LIMIT_ROCNEG;
+use crate::fields::LIMIT_ROCPOS;
+use crate::fields::PERIOD;
+use crate::fields::SEVERITY;
+use crate::fields::SEVERITY_H;
+use crate::fields::SEVERITY_HH;
+use crate::fields::SEVERITY_L;
+use crate::fields::SEVERITY_LL;
+use crate::fields::SEVERITY_ROCNEG;
+use crate::fields::SEVERITY_ROCPOS;
 use settings::refusals::INCOMPLETE;
 use settings::refusals::OUT_OF_RANGE;
 use settings::refusals::UNKNOWN_FLAG;
@@ -34,42 +53,42 @@ fn refuse(number: u32, place: usize) -> Record
 }
 
 fn severities_at(image: &[u8], at: usize) -> Severities
-    requires { ⌜ at + 24 ≤ length (now image) ⌝ }
+    requires { ⌜ at + sizeOf Form.Analog ≤ length (now image) ⌝ }
     ensures { λ r. ⌜ r ≡ severitiesAt (now (image .entry)) at ⌝ }
 {
     Severities {
-        hh: get_u32(image, at),
-        h: get_u32(image, at + 4),
-        l: get_u32(image, at + 8),
-        ll: get_u32(image, at + 12),
-        rocpos: get_u32(image, at + 16),
-        rocneg: get_u32(image, at + 20),
+        hh: get_u32(image, at + SEVERITY_HH),
+        h: get_u32(image, at + SEVERITY_H),
+        l: get_u32(image, at + SEVERITY_L),
+        ll: get_u32(image, at + SEVERITY_LL),
+        rocpos: get_u32(image, at + SEVERITY_ROCPOS),
+        rocneg: get_u32(image, at + SEVERITY_ROCNEG),
     }
 }
 
 fn limits_at(image: &[u8], at: usize) -> Limits
-    requires { ⌜ at + 28 ≤ length (now image) ⌝ }
+    requires { ⌜ at + sizeOf Form.Analog ≤ length (now image) ⌝ }
     ensures { λ r. ⌜ r ≡ limitsAt (now (image .entry)) at ⌝ }
 {
     Limits {
-        hh: get_real(image, at),
-        h: get_real(image, at + 4),
-        l: get_real(image, at + 8),
-        ll: get_real(image, at + 12),
-        deadband: get_real(image, at + 16),
-        rocpos: get_real(image, at + 20),
-        rocneg: get_real(image, at + 24),
+        hh: get_real(image, at + LIMIT_HH),
+        h: get_real(image, at + LIMIT_H),
+        l: get_real(image, at + LIMIT_L),
+        ll: get_real(image, at + LIMIT_LL),
+        deadband: get_real(image, at + DEADBAND),
+        rocpos: get_real(image, at + LIMIT_ROCPOS),
+        rocneg: get_real(image, at + LIMIT_ROCNEG),
     }
 }
 
 // The checks of a digital record that is there whole.
 fn digital_record(image: &[u8], at: usize) -> Record
-    requires { ⌜ at + 9 ≤ length (now image) ⌝ }
+    requires { ⌜ at + sizeOf Form.Digital ≤ length (now image) ⌝ }
     ensures { λ r. ⌜ r ≡ wholeRecord Form.Digital (now (image .entry)) at ⌝ }
 {
     let flags = image[at];
-    let severity = get_u32(image, at + 1);
-    let duration = get_u32(image, at + 5);
+    let severity = get_u32(image, at + SEVERITY);
+    let duration = get_u32(image, at + DIGITAL_DURATION);
     if 8 <= flags {
         return refuse(UNKNOWN_FLAG, at);
     }
@@ -83,20 +102,20 @@ fn digital_record(image: &[u8], at: usize) -> Record
             duration,
             kind,
         },
-        at + 9,
+        at + DIGITAL_SIZE,
     )
 }
 
 // The checks of an analog record that is there whole.
 fn analog_record(image: &[u8], at: usize) -> Record
-    requires { ⌜ at + 61 ≤ length (now image) ⌝ }
+    requires { ⌜ at + sizeOf Form.Analog ≤ length (now image) ⌝ }
     ensures { λ r. ⌜ r ≡ wholeRecord Form.Analog (now (image .entry)) at ⌝ }
 {
     let flags = image[at];
-    let severities = severities_at(image, at + 1);
-    let limits = limits_at(image, at + 25);
-    let period = get_u32(image, at + 53);
-    let duration = get_u32(image, at + 57);
+    let severities = severities_at(image, at);
+    let limits = limits_at(image, at);
+    let period = get_u32(image, at + PERIOD);
+    let duration = get_u32(image, at + ANALOG_DURATION);
     if 32 <= flags {
         return refuse(UNKNOWN_FLAG, at);
     }
@@ -117,7 +136,7 @@ fn analog_record(image: &[u8], at: usize) -> Record
             duration,
             kind,
         },
-        at + 61,
+        at + ANALOG_SIZE,
     )
 }
 
@@ -125,8 +144,8 @@ pub fn record_size(form: Form) -> usize
     ensures { λ r. ⌜ r ≡ sizeOf form ⌝ }
 {
     match form {
-        Form::Digital => 9,
-        Form::Analog => 61,
+        Form::Digital => DIGITAL_SIZE,
+        Form::Analog => ANALOG_SIZE,
     }
 }
 

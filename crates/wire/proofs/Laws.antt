@@ -189,6 +189,10 @@ pub and-true : (a b : Bool) → a && b ≡ true → (a ≡ true) × (b ≡ true)
 and-true true b e = (refl, e)
 and-true false b e = absurd (false≢true e)
 
+-- two tests of an order hold
+pub most-true : (a b m n : ℕ) {r : Bool} → r ≡ leb a m && leb b n → r ≡ true → (a ≤ m) × (b ≤ n)
+most-true a b m n e f = let both = and-true (leb a m) (leb b n) (sym e ∙ f) in (leb-true a m (both .0), leb-true b n (both .1))
+
 -- an element that a list has, whatever stands for one that it lacks
 pub getD-within : {A : Type 0} (xs : List A) (n : ℕ) (d e : A) → n < length xs → getD xs n d ≡ getD xs n e
 getD-within [] n d e h = absurd (omega arith)

@@ -6,7 +6,7 @@ use lib.ListN.{length}
 use Rattle.settings.specs.declared.types.Settings.{Settings}
 use Rattle.image.specs.Internal.Write.{imageOf, sizeOfImage}
 
--- the image has 2 + 9d + 61a bytes and is what is written back
+-- the image has the length of these settings' and is what is written back
 pub record RoundTrip (image : List ℕ) (s : Settings) : Type 0 where
   pub size : length image ≡ sizeOfImage (s .digital) (s .analog)
   pub back : imageOf s ≡ image

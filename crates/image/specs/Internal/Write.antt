@@ -8,6 +8,7 @@ use lib.Seq.{slice}
 use lib.Ieee.{binary32, toBits}
 use Rattle.wire.specs.Internal.Words.{words}
 use Rattle.settings.specs.Refusals.{imageTooLong}
+use Rattle.settings_record.specs.Record.{sizeOf}
 use Rattle.layout.specs.Internal.Block.{noBank}
 use Rattle.settings.specs.Alarm.{blanks}
 use Rattle.layout.specs.Internal.Words.{alarmIn}
@@ -32,11 +33,11 @@ limitWords g =
     toBits binary32 (g .hh) ∷ toBits binary32 (g .h) ∷ toBits binary32 (g .l) ∷ toBits binary32 (g .ll)
     ∷ toBits binary32 (g .deadband) ∷ toBits binary32 (g .rocpos) ∷ toBits binary32 (g .rocneg) ∷ []
 
--- 9 bytes
+-- a digital record
 unfoldable pub digitalBytes : ℕ → ℕ → ℕ → List ℕ
 digitalBytes flags severity duration = flags ∷ words (severity ∷ duration ∷ [])
 
--- 61 bytes
+-- an analog record
 unfoldable pub analogBytes : ℕ → Limits → Severities → ℕ → ℕ → List ℕ
 analogBytes flags g s period duration = flags ∷ words (severityWords s ++ (limitWords g ++ (period ∷ duration ∷ [])))
 
@@ -62,9 +63,9 @@ sectionBytes form first n alarms = n ∷ recordsBytes form (slice first (first +
 unfoldable pub imageOf : Settings → List ℕ
 imageOf s = sectionBytes DigitalForm 0 (s .digital) (s .alarms) ++ sectionBytes AnalogForm (s .digital) (s .analog) (s .alarms)
 
--- the image's length: a count of one byte and 9 bytes for each digital alarm, a count and 61 bytes for each analog one
+-- the image's length: two counts of one byte, and a record for each alarm
 abbrev pub sizeOfImage : ℕ → ℕ → ℕ
-sizeOfImage d a = 2 + 9 * d + 61 * a
+sizeOfImage d a = 2 + sizeOf DigitalForm * d + sizeOf AnalogForm * a
 
 -- the buffer is long enough. (Counts over 12 stand in no accepted settings, and have no image)
 unfoldable pub hasRoom : ℕ → ℕ → ℕ → Bool

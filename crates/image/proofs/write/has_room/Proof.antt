@@ -1,23 +1,26 @@
--- `image::write::has_room` meets its contract: each return takes the case that its tests led to. Assumes nothing.
+-- `image::write::has_room` meets its contract: each return takes the case that its test led to. Assumes nothing.
 use borrow.Author.Needs.{needs}
+use borrow.Author.Tests.{not-true, not-false}
+use Rattle.wire.proofs.Laws.{most-true}
 use Rattle.image.specs.Internal.Write.{hasRoom}
-use borrow.Author.Tests.{le-leb, lt-leb}
 use Rattle.image.proofs.write.has_room.Statement.{statement}
 use Rattle.image.proofs.write.has_room.Tie as tie
 
 returns : tie.Need-returns
 unfolding hasRoom
-returns c = simp (lt-leb _ _ (c .if1 .taken))
+returns c = simp (← c .before .is-bank .ensures, not-true (c .before .is-bank .result) (c .if1 .taken))
+
+image-size-requires : tie.Need-image-size-requires
+image-size-requires c κs =
+    let b = c .before in
+    let a = b .before .args in
+    most-true (a .digital) (a .analog) 12 12 (b .is-bank .ensures) (not-false (b .is-bank .result) (c .if1 .left))
 
 returns-2 : tie.Need-returns-2
 unfolding hasRoom
-returns-2 c = simp (le-leb _ _ (c .before .if1 .left), lt-leb _ _ (c .if2 .taken))
-
-returns-3 : tie.Need-returns-3
-unfolding hasRoom
-returns-3 c = simp (le-leb _ _ (c .before .if1 .left), le-leb _ _ (c .if2 .left))
+returns-2 c =
+    let b = c .before .before .is-bank in
+    simp (← b .ensures, not-false (b .result) (c .before .if1 .left), c .image-size .ensures)
 
 pub has-room-spec : {M : Type 1} → statement M
-has-room-spec =
-    tie.close
-    (tie.spec returns returns-2 (λ c. search needs) (λ c. search needs) (λ c. search needs) (λ c. search needs) returns-3)
+has-room-spec = tie.close (tie.spec (λ c κs. search needs) returns image-size-requires returns-2)

@@ -11,10 +11,13 @@ use Rattle.image.proofs.write.put_digital.Tie as tie
 returns : tie.Need-returns
 unfolding digitalBytes
 returns c =
-    let a = c .before .before .before .before .before .before .before .before .before .before .before .before .before .args in
-    byte-then (now (a .out)) (a .at) (a .flags) _ (c .before .before .before .before .before .before .before .before .before .before .put-u8 .ensures)
-    (word-then _ _ _ _ (c .before .before .before .before .before .before .put-u32 .ensures) (sym (add-assoc _ 1 4))
-    (word-then _ _ _ _ (c .before .before .put-u322 .ensures) (sym (add-assoc _ 5 4))
+    let duration = c .before .before in
+    let severity = duration .before .before .before .before in
+    let flags = severity .before .before .before .before in
+    let a = flags .before .before .before .args in
+    byte-then (now (a .out)) (a .at) (a .flags) _ (flags .put-u8 .ensures)
+    (word-then _ _ _ _ (severity .put-u32 .ensures) (sym (add-assoc _ 1 4))
+    (word-then _ _ _ _ (duration .put-u322 .ensures) (sym (add-assoc _ 5 4))
     (words-done _ _)))
 
 pub put-digital-spec : {M : Type 1} → statement M

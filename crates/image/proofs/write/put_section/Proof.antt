@@ -11,11 +11,15 @@ use Rattle.image.proofs.write.put_section.Tie as tie
 
 put-u8-requires : tie.Need-put-u8-requires
 unfolding sectionBytes
-put-u8-requires c κs = let a = c .before .before .before .args in omega (arith, section-length (a .form) (a .first) (a .count) (readAs (a .form) (now (a .words))))
+put-u8-requires c κs =
+    let a = c .before .before .before .args in
+    omega (arith, section-length (a .form) (a .first) (a .count) (readAs (a .form) (now (a .words))))
 
 put-records-requires : tie.Need-put-records-requires
 unfolding sectionBytes
-put-records-requires c κs = let a = c .before .before .before .before .before .before .before .args in omega (arith, section-length (a .form) (a .first) (a .count) (readAs (a .form) (now (a .words))))
+put-records-requires c κs =
+    let a = c .before .before .before .before .before .before .before .args in
+    omega (arith, section-length (a .form) (a .first) (a .count) (readAs (a .form) (now (a .words))))
 
 returns : tie.Need-returns
 unfolding sectionBytes

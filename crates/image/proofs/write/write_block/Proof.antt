@@ -32,7 +32,9 @@ put-section-requires-2 c κs =
     let ws = now (c .before .before .before .before .before .before .before .before .before .before .before .args .words) in
     let h = c .before .before .before .before .before .before .has-room in
     let r = room _ _ _ (sym (h .ensures) ∙ not-false (h .result) (c .before .before .before .before .before .if1 .left)) in
-    omega (arith, section-room Digital 0 (digitalIn ws) (readAs Digital ws), section-room Analog (digitalIn ws) (analogIn ws) (readAs Analog ws), r .digital, r .analog, r .image)
+    let first = section-room Digital 0 (digitalIn ws) (readAs Digital ws) in
+    let second = section-room Analog (digitalIn ws) (analogIn ws) (readAs Analog ws) in
+    omega (arith, r .digital, r .analog, r .image)
 
 returns-2 : tie.Need-returns-2
 unfolding writtenOf imageBuffer settingsIn

@@ -1,4 +1,5 @@
--- `scan_record::check::check_alarms` meets its contract: the invariant: checking on from here answers what checking from the first alarm answers, and this alarm's part begins here. The measure is the alarms left. Assumes nothing.
+-- `scan_record::check::check_alarms` meets its contract: the invariant: checking on from here answers what checking from the first alarm answers,
+-- and this alarm's part begins here. The measure is the alarms left. Assumes nothing.
 use borrow.Author.Needs.{needs}
 use mathlib.Core.Path.{_≡_, sym, ap, _∙_}
 use Prim.Native.Nat.{ℕ, _+_, _-_, _≤_}
@@ -35,11 +36,15 @@ entry-at-requires c κs =
 
 loop-again : tie.Need-loop-again Inv-loop μ-loop
 loop-again c =
-    let a = c .before .before .before .before .before .before .before .before .args in
-    let l = c .before .before .before .before .before .before .loop in
-    let found = rw (c .before .before .before .before .form-at .ensures) at (sym (c .before .before .before .entry-at .ensures) ∙ c .before .next .given .1) in
-    let past = entry-past (formAt (a .digital) (l .place)) (now (a .bytes)) (l .at) (l .place + 1) found in
-    (search needs, past ∙ rw (l .inv .1) (offset-next (a .digital) (l .place)), sym (check-next (now (a .bytes)) (a .digital) (l .at) (omega arith) found) ∙ l .inv .2)
+    let entry = c .before .before .before in
+    let l = entry .before .before .before .loop in
+    let a = entry .before .before .before .before .before .args in
+    let found = rw (entry .before .form-at .ensures) at (sym (entry .entry-at .ensures) ∙ c .before .next .given .1) in
+    let past = entry-past (formAt (a .digital) (l .place)) (now (a .bytes)) (l .at) (l .place + 1) found in (
+      search needs,
+      past ∙ rw (l .inv .1) (offset-next (a .digital) (l .place)),
+      sym (check-next (now (a .bytes)) (a .digital) (l .at) (omega arith) found) ∙ l .inv .2,
+    )
 
 returns : tie.Need-returns Inv-loop μ-loop
 returns c =
@@ -51,9 +56,10 @@ returns c =
 
 returns-2 : tie.Need-returns-2 Inv-loop μ-loop
 returns-2 c =
-    let a = c .before .before .before .before .before .before .before .before .args in
-    let l = c .before .before .before .before .before .before .loop in
-    let found = rw (c .before .before .before .before .form-at .ensures) at (sym (c .before .before .before .entry-at .ensures) ∙ c .before .refusal .given .1) in
+    let entry = c .before .before .before in
+    let l = entry .before .before .before .loop in
+    let a = entry .before .before .before .before .before .args in
+    let found = rw (entry .before .form-at .ensures) at (sym (entry .entry-at .ensures) ∙ c .before .refusal .given .1) in
     sym (check-stop (now (a .bytes)) (a .digital) (l .at) (omega arith) found) ∙ l .inv .2
 
 pub check-alarms-spec : {M : Type 1} → statement M

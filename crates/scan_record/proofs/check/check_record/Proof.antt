@@ -19,18 +19,22 @@ get-u64-requires c κs =
 returns-2 : tie.Need-returns-2
 unfolding checkRecord
 returns-2 c =
-    simp (← c .before .before .before .is-whole .ensures, not-false (c .before .before .before .is-whole .result) (c .before .before .if1 .left), ← c .before .get-u64 .ensures, lt-ltb _ _ (c .if2 .taken))
+    let w = c .before .before .before .is-whole in
+    simp (← w .ensures, not-false (w .result) (c .before .before .if1 .left), ← c .before .get-u64 .ensures, lt-ltb _ _ (c .if2 .taken))
 
 check-alarms-requires : tie.Need-check-alarms-requires
 check-alarms-requires c κs =
-    let w = whole-says _ _ _ (sym (c .before .before .before .is-whole .ensures) ∙ not-false (c .before .before .before .is-whole .result) (c .before .before .if1 .left)) in
-    ((w .digital-most, w .analog-most), w .size)
+    let w = c .before .before .before .is-whole in
+    let says = whole-says _ _ _ (sym (w .ensures) ∙ not-false (w .result) (c .before .before .if1 .left)) in
+    ((says .digital-most, says .analog-most), says .size)
 
 returns-3 : tie.Need-returns-3
 unfolding checkRecord
 returns-3 c =
+    let w = c .before .before .before .before .is-whole in
+    let time = c .before .before .get-u64 in
     c .check-alarms .ensures
-    ∙ simp (← c .before .before .before .before .is-whole .ensures, not-false (c .before .before .before .before .is-whole .result) (c .before .before .before .if1 .left), ← c .before .before .get-u64 .ensures, le-ltb _ _ (c .before .if2 .left))
+    ∙ simp (← w .ensures, not-false (w .result) (c .before .before .before .if1 .left), ← time .ensures, le-ltb _ _ (c .before .if2 .left))
 
 pub check-record-spec : {M : Type 1} → statement M
 check-record-spec =

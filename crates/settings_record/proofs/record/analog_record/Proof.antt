@@ -1,18 +1,18 @@
 -- `settings_record::record::analog_record` meets its contract: each return takes the case that its tests led to. Assumes nothing.
 use borrow.Author.Needs.{needs}
 use mathlib.Core.Path.{_∙_}
-use Rattle.settings_record.specs.Record.{analogAlarm}
+use Rattle.settings_record.specs.Record.{fieldsAt}
 use Rattle.settings.specs.Refusals.{checked}
 use borrow.Author.Tests.{le-ltb, lt-ltb, not-true, not-false}
 use Rattle.settings_record.proofs.record.analog_record.Statement.{statement}
 use Rattle.settings_record.proofs.record.analog_record.Tie as tie
 
 returns : tie.Need-returns
-unfolding checked analogAlarm
+unfolding checked fieldsAt
 returns c = c .refuse .ensures ∙ simp (le-ltb _ _ (c .before .if1 .taken))
 
 returns-2 : tie.Need-returns-2
-unfolding checked analogAlarm
+unfolding checked fieldsAt
 returns-2 c =
     let range = c .before .before in
     let fields = range .before .before in
@@ -27,7 +27,7 @@ returns-2 c =
     )
 
 returns-3 : tie.Need-returns-3
-unfolding checked analogAlarm
+unfolding checked fieldsAt
 returns-3 c =
     let levels = c .before .before in
     let range = levels .before .before in
@@ -45,7 +45,7 @@ returns-3 c =
     )
 
 returns-4 : tie.Need-returns-4
-unfolding checked analogAlarm
+unfolding checked fieldsAt
 returns-4 c =
     let levels = c .before in
     let range = levels .before .before in
@@ -67,9 +67,7 @@ analog-record-spec =
     tie.close
     (tie.spec
     (λ c. search needs)
-    (λ c. search needs)
     (λ c κs. search needs)
-    (λ c. search needs)
     (λ c κs. search needs)
     (λ c. search needs)
     (λ c κs. search needs)

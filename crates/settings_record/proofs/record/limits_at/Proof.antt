@@ -12,6 +12,7 @@ pub limits-at-spec : {M : Type 1} → statement M
 limits-at-spec =
     tie.close
     (tie.spec
+    (λ c. search needs)
     (λ c κs. search needs)
     (λ c. search needs)
     (λ c κs. search needs)

@@ -1,12 +1,12 @@
 -- `settings_record::record::record_at` meets its contract: a record that is there whole is read as its form says. Assumes nothing.
 use borrow.Author.Needs.{needs}
-use mathlib.Core.Bool.{true}
+use mathlib.Core.Bool.{Bool, false, not}
 use lib.Dec.{leb}
 use denote.Ref.{now}
 use lib.ListN.{length}
-use Prim.Native.Nat.{_+_}
-use native.Mathlib.Omega.{arith}
-use mathlib.Core.Path.{_≡_, sym, ap, _∙_}
+use Prim.Native.Nat.{ℕ, _+_, _≤_}
+use mathlib.Core.Path.{_≡_, sym, _∙_}
+use Rattle.settings.specs.declared.types.Form.{Form}
 use borrow.Author.Tests.{le-leb, leb-true, not-true, not-false}
 use Rattle.settings_record.specs.Record.{sizeOf, recordAt}
 use Rattle.settings.specs.Refusals.{checked}
@@ -20,27 +20,23 @@ returns c =
     c .refuse .ensures
     ∙ simp (← has .before .record-size .ensures, ← has .has .ensures, not-true (has .has .result) (c .before .if1 .taken))
 
+-- the record is there whole
+there : {r : Bool} {size : ℕ} (form : Form) (at len : ℕ) → size ≡ sizeOf form → r ≡ leb (at + size) len → not r ≡ false → at + sizeOf form ≤ len
+there {r} {size} form at len e f g = rw e at (leb-true (at + size) len (sym f ∙ not-false r g))
+
 digital-record-requires : tie.Need-digital-record-requires
 digital-record-requires c κs =
-    let a = c .before .before .before .before .before .before .args in
-    let size = c .before .before .before .before .record-size in
-    let has = c .before .before .before .has in
-    let n = size .ensures ∙ ap sizeOf (c .enum-told .given .1) in
-    let h : leb (a .at + size .result) (length (now (a .image))) ≡ true =
-    sym (has .ensures) ∙ not-false (has .result) (c .before .before .if1 .left)
-    in
-    omega (arith, leb-true (a .at + size .result) (length (now (a .image))) h)
+    let has = c .before .before .before in
+    let a = has .before .before .before .args in
+    let whole = there (a .form) (a .at) (length (now (a .image))) (has .before .record-size .ensures) (has .has .ensures) (c .before .before .if1 .left) in
+    rw (c .enum-told .given .1) at whole
 
 analog-record-requires : tie.Need-analog-record-requires
 analog-record-requires c κs =
-    let a = c .before .before .before .before .before .before .args in
-    let size = c .before .before .before .before .record-size in
-    let has = c .before .before .before .has in
-    let n = size .ensures ∙ ap sizeOf (c .enum-told2 .given .1) in
-    let h : leb (a .at + size .result) (length (now (a .image))) ≡ true =
-    sym (has .ensures) ∙ not-false (has .result) (c .before .before .if1 .left)
-    in
-    omega (arith, leb-true (a .at + size .result) (length (now (a .image))) h)
+    let has = c .before .before .before in
+    let a = has .before .before .before .args in
+    let whole = there (a .form) (a .at) (length (now (a .image))) (has .before .record-size .ensures) (has .has .ensures) (c .before .before .if1 .left) in
+    rw (c .enum-told2 .given .1) at whole
 
 returns-2 : tie.Need-returns-2
 unfolding recordAt checked

@@ -12,6 +12,7 @@ pub severities-at-spec : {M : Type 1} → statement M
 severities-at-spec =
     tie.close
     (tie.spec
+    (λ c. search needs)
     (λ c κs. search needs)
     (λ c. search needs)
     (λ c κs. search needs)
