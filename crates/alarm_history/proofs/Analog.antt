@@ -5,10 +5,11 @@ use mathlib.Core.List.{List, [], _∷_, _++_, foldr}
 use mathlib.Core.Bool.{Bool, true, false, not, _&&_, _||_, or-true, or-false}
 use mathlib.Core.Option.{Option}
 use lib.Dec.{leb}
+use Rattle.settings.specs.Internal.Reals.{limitsOf, periodOf, realAnalog}
 use Rattle.settings.specs.Alarm.{ackRequired}
 use Rattle.settings.specs.Condition as C
 use Rattle.settings.specs.Condition.{Condition, sideHas, isRate}
-use Rattle.settings.specs.Numbers.{Numbers, AnalogOf, valueOf, reals, realAnalog}
+use Rattle.settings.specs.Numbers.{Numbers, AnalogOf, valueOf, reals, analogReals}
 use Rattle.settings.specs.declared.types.Alarm.{Alarm}
 use Rattle.settings.specs.declared.types.Limits.{Limits}
 use Rattle.settings.specs.declared.types.Severities.{Severities}
@@ -53,9 +54,15 @@ pub analog-required : (a : Alarm) {limits : Limits} {severities : Severities} {p
     → analogRequired (a .flags) ≡ ackRequired (a .kind) (a .flags)
 analog-required a k = rw k
 
+-- its settings, by their parts
+pub analog-parts : (a : Alarm) {limits : Limits} {severities : Severities} {period : ℕ} → a .kind ≡ Analog limits severities period
+    → realAnalog a ≡ analogReals (a .flags) (a .duration) limits period
+analog-parts a k = ap (λ kind. analogReals (a .flags) (a .duration) (limitsOf kind) (periodOf kind)) k
+
 pub analog-rules : (a : Alarm) {limits : Limits} {severities : Severities} {period : ℕ} → a .kind ≡ Analog limits severities period
     → rulesOf a ≡ analogRules reals (realAnalog a) (ackRequired (a .kind) (a .flags))
-analog-rules a k = ap (λ kind. rulesBy kind a) k
+analog-rules a k =
+    ap (λ kind. rulesBy kind a) k ∙ sym (ap (λ g. analogRules reals g (ackRequired (a .kind) (a .flags))) (analog-parts a k))
 
 module _ {X : Type 0} (n : Numbers X) (a : AnalogOf X) {required : Bool} (asked : analogRequired (a .flags) ≡ required) where
   abbrev rules : Rules

@@ -3,9 +3,10 @@ use Prim.Native.Nat.{ℕ, suc}
 use mathlib.Core.Path.{_≡_, refl, sym, ap, _∙_}
 use mathlib.Core.Bool.{Bool}
 use mathlib.Core.List.{List, [], _∷_, _++_, foldr}
+use Rattle.settings.specs.Internal.Reals.{realAnalog}
 use Rattle.settings.specs.Alarm.{ackRequired}
 use Rattle.settings.specs.Condition.{Condition, In, conditionsOf}
-use Rattle.settings.specs.Numbers.{reals, realAnalog}
+use Rattle.settings.specs.Numbers.{reals}
 use Rattle.settings.specs.declared.types.Alarm.{Alarm}
 use Rattle.settings.specs.declared.types.Limits.{Limits}
 use Rattle.settings.specs.declared.types.Severities.{Severities}

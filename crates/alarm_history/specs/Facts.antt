@@ -5,7 +5,7 @@ use mathlib.Core.Bool.{Bool, not, _&&_, _||_}
 use lib.Dec.{leb}
 use Rattle.settings.specs.Alarm.{ackRequired}
 use Rattle.settings.specs.Condition.{Condition, sideHas, isRate}
-use Rattle.settings.specs.Numbers.{Numbers, AnalogOf, reals, realAnalog}
+use Rattle.settings.specs.Numbers.{Numbers, AnalogOf, reals, analogReals}
 use Rattle.settings.specs.declared.types.Alarm.{Alarm}
 use Rattle.settings.specs.declared.types.Kind.{Kind}
 use Rattle.settings.specs.declared.types.Kind.the-variants.{Digital, Analog}
@@ -47,7 +47,8 @@ analogRules n a required =
 
 abbrev pub rulesBy : Kind → Alarm → Rules
 rulesBy (Digital severity) a = digitalRules a
-rulesBy (Analog limits severities period) a = analogRules reals (realAnalog a) (ackRequired (a .kind) (a .flags))
+rulesBy (Analog limits severities period) a =
+    analogRules reals (analogReals (a .flags) (a .duration) limits period) (ackRequired (a .kind) (a .flags))
 
 abbrev pub rulesOf : Alarm → Rules
 rulesOf a = rulesBy (a .kind) a

@@ -7,12 +7,13 @@ use native.Mathlib.Omega.{arith}
 use lib.Ieee.{binary32}
 use lib.Ieee.Bits.{ofBits-fits}
 use lib.ListN.{length, getD, replicate, length-replicate, getD-replicate}
+use Rattle.settings.specs.Internal.Reals.{realAnalog}
 use Rattle.wire.specs.Bits.{bit}
 use Rattle.wire.specs.Number.{number}
 use Rattle.condition.specs.Internal.Mark.{marksAfter, timeStampAfter, noMarks}
 use Rattle.settings.specs.Alarm.{ackRequired, formAt}
 use Rattle.settings.specs.Internal.Sound.{Sound}
-use Rattle.settings.specs.Numbers.{reals, realAnalog}
+use Rattle.settings.specs.Numbers.{reals}
 use Rattle.settings.specs.declared.types.Alarm.{Alarm}
 use Rattle.settings.specs.declared.types.Settings.{Settings}
 use Rattle.settings.specs.declared.types.Limits.{Limits}

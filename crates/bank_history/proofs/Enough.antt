@@ -9,8 +9,9 @@ use native.Mathlib.Nat.{le-refl}
 use lib.Dec.{ltb}
 use lib.Count.{ones, ones-step}
 use lib.ListN.{length, getD}
+use Rattle.settings.specs.Internal.Reals.{realAnalog}
 use Rattle.wire.specs.Internal.Words.{wordOf}
-use Rattle.settings.specs.Numbers.{reals, realAnalog}
+use Rattle.settings.specs.Numbers.{reals}
 use Rattle.settings.specs.declared.reply.Reply.the-variants.{Accepted}
 use Rattle.settings.specs.declared.types.Kind.{Kind}
 use Rattle.settings.specs.declared.types.Kind.the-variants.{Digital, Analog}

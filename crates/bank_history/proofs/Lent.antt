@@ -7,7 +7,7 @@ use Prim.Native.Nat.{ℕ}
 use lib.Dec.{T}
 use lib.Pow.{areBytes}
 use lib.ListN.{length}
-use Rattle.settings.specs.Refusals.{eventsTooLong}
+use Rattle.settings.specs.Refusals.{refusal}
 use Rattle.settings.specs.declared.reply.Reply.{Reply}
 use Rattle.settings.specs.declared.reply.Reply.the-variants.{Accepted, Refused as RefusedBy}
 use Rattle.layout.specs.Internal.Block.{isBlock}
@@ -38,7 +38,7 @@ block w fits = let f = fit-says w fits in ap₂ (λ (x y : Bool). x && y) (eq-eq
 
 module _ (w : Words) (rec : List ℕ) (e : checkOf (bankIn w) rec ≡ Accepted) (long : length (w .states) ≡ 580) where
   -- by whether the buffer is too short
-  by : (t : Bool) → let s : Scanned = cond t (refusedScan (bankIn w) eventsTooLong) (record { bank = bankAfter (bankIn w) rec; answer = Events (length (eventsIn (bankIn w) rec)) }) in
+  by : (t : Bool) → let s : Scanned = cond t (refusedScan (bankIn w) (refusal 12 0)) (record { bank = bankAfter (bankIn w) rec; answer = Events (length (eventsIn (bankIn w) rec)) }) in
       bankIn (ifAccepted (s .answer) (wordsAfter w rec) w) ≡ s .bank
   by true = refl
   by false = bank-after w rec e long

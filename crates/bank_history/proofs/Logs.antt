@@ -9,7 +9,8 @@ use borrow.Author.Tests.{ltb-true, ltb-false}
 use lib.Dec.{ltb}
 use lib.ListN.{getD}
 use lib.Ieee.{Float}
-use Rattle.settings.specs.Numbers.{reals, realAnalog}
+use Rattle.settings.specs.Internal.Reals.{realAnalog}
+use Rattle.settings.specs.Numbers.{reals}
 use Rattle.settings.specs.declared.types.Alarm.{Alarm}
 use Rattle.settings.specs.declared.reply.Reply.the-variants.{Accepted}
 use Rattle.condition.specs.Event.{Event}

@@ -7,11 +7,12 @@ use lib.Dec.{ltb}
 use lib.Ieee.{Float}
 use lib.ListN.{getD, take}
 use borrow.Author.Tests.{ltb-true, ltb-false}
+use Rattle.settings.specs.Internal.Reals.{realAnalog}
 use Rattle.wire.specs.Real.{zeroReal}
 use Rattle.settings.specs.Condition as C
 use Rattle.settings.specs.Condition.{Condition, In, conditionsOf}
 use Rattle.settings.specs.Alarm.{ackRequired}
-use Rattle.settings.specs.Numbers.{Numbers, AnalogOf, reals, realAnalog}
+use Rattle.settings.specs.Numbers.{Numbers, AnalogOf, reals, analogReals}
 use Rattle.settings.specs.declared.reply.Reply.the-variants.{Accepted}
 use Rattle.settings.specs.declared.types.Alarm.{Alarm}
 use Rattle.settings.specs.declared.types.Limits.{Limits}
@@ -34,7 +35,7 @@ use Rattle.alarm_history.specs.Stamps.{resetStamp, elapsedIn}
 use Rattle.alarm_history.specs.Internal.After.{elapsed, keptIn, digitalRun, digitalFrom, analogRun, analogFrom, marksIn}
 use Rattle.alarm_history.proofs.Marks.{clear, elapsed-is, reset-stamp}
 use Rattle.alarm_history.proofs.Digital.{digital-required, run-own, digital-run, digital-report}
-use Rattle.alarm_history.proofs.Analog.{six, analog-required, analog-run, analog-report}
+use Rattle.alarm_history.proofs.Analog.{six, analog-required, analog-parts, analog-run, analog-report}
 use Rattle.scan.specs.Internal.Scan.{alarmsOf}
 use Rattle.bank.specs.Internal.Bank.{Bank}
 use Rattle.report.specs.Empty.{noStatus, noStatuses}
@@ -209,20 +210,24 @@ module _ (s : State) (words : List ℕ) (at time : ℕ) (scans : List Scan) (t :
     digital-report-said severity k v = subst (λ (q : Kind). given q ≡ said q) (sym k) (digital-said severity (digital-required a k) v)
 
     analog-said : (g : Limits) (severities : Severities) (period : ℕ) → analogRequired (a .flags) ≡ ackRequired (a .kind) (a .flags)
-        → AnalogView reals realPatterns (realAnalog a) s words at scans → given (Analog g severities period) ≡ said (Analog g severities period)
+        → AnalogView reals realPatterns (analogReals (a .flags) (a .duration) g period) s words at scans
+        → given (Analog g severities period) ≡ said (Analog g severities period)
     analog-said g severities period asked v =
+        let x : AnalogOf Float = analogReals (a .flags) (a .duration) g period in
         λ i.
         record {
           reply = Accepted;
-          alarm = analog-whole reals realPatterns shownReal (realAnalog a) asked v severities (any-invalid severities g period) i;
-          resettime = analog-reset reals realPatterns shownReal (realAnalog a) asked v i;
-          conditions = analog-statuses reals realPatterns shownReal (realAnalog a) asked v i;
+          alarm = analog-whole reals realPatterns shownReal x asked v severities (any-invalid severities g period) i;
+          resettime = analog-reset reals realPatterns shownReal x asked v i;
+          conditions = analog-statuses reals realPatterns shownReal x asked v i;
         }
 
     pub analog-report-said : (g : Limits) (severities : Severities) (period : ℕ) → a .kind ≡ Analog g severities period
         → AnalogView reals realPatterns (realAnalog a) s words at scans → given (a .kind) ≡ alarmReport a scans
     analog-report-said g severities period k v =
-        subst (λ (q : Kind). given q ≡ said q) (sym k) (analog-said g severities period (analog-required a k) v)
+        subst (λ (q : Kind). given q ≡ said q) (sym k)
+        (analog-said g severities period (analog-required a k)
+        (subst (λ (x : AnalogOf Float). AnalogView reals realPatterns x s words at scans) (analog-parts a k) v))
 
 -- ---- the alarm at a place
 

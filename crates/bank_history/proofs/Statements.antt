@@ -11,7 +11,7 @@ use Rattle.wire.proofs.Laws.{and-true}
 use Rattle.settings.specs.declared.types.Alarm.{Alarm}
 use Rattle.alarm_history.specs.Scans.{Scan}
 use Rattle.settings.specs.Condition.{Condition, In, conditionsOf}
-use Rattle.settings.specs.Refusals.{imageTooLong}
+use Rattle.settings.specs.Refusals.{refusal}
 use Rattle.settings.specs.declared.types.Kind.{Kind}
 use Rattle.settings.specs.declared.types.Kind.the-variants.{Digital, Analog}
 use Rattle.settings.specs.declared.types.Settings.{Settings}
@@ -132,7 +132,7 @@ module _ (image : List ℕ) (calls : List Call) (good : Good image) where
   image-is : imageOf s ≡ image
   image-is = RoundTrip.round-trip image (good .0) (good .1)
 
-  write-said : (room : ℕ) → writtenOf (b .settings) room ≡ cond (leb (length image) room) (Length (length image)) (Refused imageTooLong)
+  write-said : (room : ℕ) → writtenOf (b .settings) room ≡ cond (leb (length image) room) (Length (length image)) (Refused (refusal 13 0))
   unfolding writtenOf
   write-said room = rw (stay, RoundTrip.room-is image (good .0) (good .1) room, image-is)
 

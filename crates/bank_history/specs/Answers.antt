@@ -5,7 +5,7 @@ use mathlib.Core.List.{List, [], _∷_, _++_, map}
 use lib.Dec.{ltb}
 use lib.ListN.{length, getD, drop}
 use Rattle.settings.specs.Alarm.{blank, formAt}
-use Rattle.settings.specs.Refusals.{eventsTooLong}
+use Rattle.settings.specs.Refusals.{refusal}
 use Rattle.settings.specs.declared.types.Alarm.{Alarm}
 use Rattle.settings.specs.declared.types.Form.{Form}
 use Rattle.settings.specs.declared.types.Settings.{Settings}
@@ -48,7 +48,7 @@ lastAccepted (rec ∷ past) = timeOf rec
 
 -- after the check: 12 where the buffer is too short for 16 bytes an event, or the number of events
 abbrev pub afterCheck : Reply → ℕ → ℕ → Answer
-afterCheck Accepted room events = cond (ltb room (16 * events)) (Refused eventsTooLong) (Events events)
+afterCheck Accepted room events = cond (ltb room (16 * events)) (Refused (refusal 12 0)) (Events events)
 afterCheck (RefusedBy r) room events = Refused r
 
 -- the answer to a record, given the length of the lent buffer: the first of 7 to 12, or the number of events

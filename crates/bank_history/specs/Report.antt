@@ -6,7 +6,7 @@ use lib.Dec.{leb}
 use lib.ListN.{take}
 use lib.Ieee.{Float}
 use Rattle.wire.specs.Real.{zeroReal}
-use Rattle.settings.specs.Numbers.{reals, realAnalog}
+use Rattle.settings.specs.Numbers.{reals, analogReals}
 use Rattle.settings.specs.Condition.{Condition, In, HH, L, conditionsOf, severityOf}
 use Rattle.settings.specs.declared.types.Alarm.{Alarm}
 use Rattle.settings.specs.declared.types.Kind.{Kind}
@@ -31,7 +31,7 @@ severityInv kind = foldr (λ c rest. severityInvalid (severityOf kind c) || rest
 -- the rate; a digital alarm has none, and 0 is said
 abbrev pub rateOf : Kind → Alarm → List Scan → Float
 rateOf (Digital severity) a scans = zeroReal
-rateOf (Analog limits severities period) a scans = rateIn reals (realAnalog a) scans
+rateOf (Analog limits severities period) a scans = rateIn reals (analogReals (a .flags) (a .duration) limits period) scans
 
 -- the elapsed runs: of a digital alarm's one condition, of each side of an analog one
 abbrev pub highRun : Kind → Rules → List Scan → ℕ

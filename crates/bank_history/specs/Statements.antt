@@ -7,7 +7,7 @@ use lib.Dec.{T, leb}
 use lib.ListN.{length, getD, drop}
 use lib.Pow.{areBytes}
 use Rattle.settings.specs.Condition.{In, conditionsOf}
-use Rattle.settings.specs.Refusals.{imageTooLong}
+use Rattle.settings.specs.Refusals.{refusal}
 use Rattle.settings.specs.declared.types.Settings.{Settings}
 use Rattle.settings.specs.declared.reply.Reply.the-variants.{Accepted}
 use Rattle.history.specs.Words.{Demand3}
@@ -54,7 +54,7 @@ module _ (image : List ℕ) (calls : List Call) where
     -- a report
     pub report : (n : ℕ) → reportIn words n ≡ reportAfter (settings image) records n
     -- the writer: the image that was read, or 13
-    pub write : (room : ℕ) → writeOf (words .settings) room ≡ cond (leb (length image) room) (Length (length image)) (Refused imageTooLong)
+    pub write : (room : ℕ) → writeOf (words .settings) room ≡ cond (leb (length image) room) (Length (length image)) (Refused (refusal 13 0))
     pub image-written : (out : List ℕ) → writeBuffer (words .settings) out ≡ cond (leb (length image) (length out)) (image ++ drop (length image) out) out
 
 -- every reply and every byte, for every list of calls

@@ -19,7 +19,7 @@ use Rattle.settings_record.specs.Record.{recordAt, sizeOf}
 use Rattle.reader.specs.Section.{recordsFrom, sectionAt, onRecord, onCount}
 use Rattle.reader.specs.Read.{readOf, restOf, onSection, refusedBy}
 use Rattle.image.specs.Internal.Write.{recordsBytes, sectionBytes, imageOf, hasRoom, writtenOf, imageBuffer}
-use Rattle.settings.specs.Refusals.{refusal, leftOver}
+use Rattle.settings.specs.Refusals.{refusal}
 use Rattle.image.specs.Internal.RoundTrip.{RoundTrip}
 use Rattle.settings.specs.declared.types.Alarm.{Alarm}
 use Rattle.settings.specs.declared.types.Form.{Form}
@@ -197,10 +197,10 @@ module _ (image : List ℕ) (b : T (areBytes image)) where
       read a = record { settings = record { digital = d; analog = a; alarms = filled .alarms }; reply = Accepted }
 
       done : ℕ → ℕ → Loaded
-      done a end = cond (ltb end (length image)) (refusedBy (leftOver end)) (read a)
+      done a end = cond (ltb end (length image)) (refusedBy (refusal 6 end)) (read a)
 
       ended : (a end : ℕ) (t : Bool) → ltb end (length image) ≡ t → filled .section ≡ Read a end
-          → cond t (refusedBy (leftOver end)) (read a) .reply ≡ Accepted → RoundTrip image (cond t (refusedBy (leftOver end)) (read a) .settings)
+          → cond t (refusedBy (refusal 6 end)) (read a) .reply ≡ Accepted → RoundTrip image (cond t (refusedBy (refusal 6 end)) (read a) .settings)
       ended a end true f g e = let z : _≡_ {A = ℕ} 0 1 = cc in absurd (omega arith)
       ended a end false f g e =
           back-sections d a next end alarms (filled .alarms) x

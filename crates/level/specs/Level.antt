@@ -3,13 +3,13 @@ use Prim.Native.Nat.{ℕ}
 use mathlib.Core.Bool.{Bool, true, false, not, _&&_, _||_, Bool·beq}
 use mathlib.Core.Option.{Option, none, some}
 use lib.Dec.{ltb}
-use Rattle.settings.specs.Alarm.{conditionSet, latched}
+use Rattle.wire.specs.Bits.{bit}
 use Rattle.settings.specs.Condition.{Condition, In, HH, H, L, LL, ROCPos, ROCNeg, on}
 use Rattle.settings.specs.Numbers.{Numbers, AnalogOf}
 use Rattle.settings.specs.declared.types.Reading.{Reading}
 use Rattle.settings.specs.declared.types.Reading.the-variants.{Digital, Level}
 
--- ---- a digital alarm, by its flags
+-- ---- a digital alarm, by its flags: bit 0 Condition, 2 Latched
 
 -- the reading is this digital bit
 abbrev pub isBit : Bool → Reading → Bool
@@ -18,11 +18,11 @@ isBit condition (Level x) = false
 
 -- met: In equals Condition
 abbrev pub bitMet : ℕ → Reading → Bool
-bitMet flags x = isBit (conditionSet flags) x
+bitMet flags x = isBit (bit flags 0) x
 
 -- what clears it where it is not met: a reset in this scan, or no latch
 abbrev pub bitFrees : ℕ → Bool → Bool
-bitFrees flags reset = not (latched flags) || reset
+bitFrees flags reset = not (bit flags 2) || reset
 
 -- ---- an analog alarm, for any form of numbers
 

@@ -11,7 +11,7 @@ use lib.Dec.{ltb}
 use lib.ListN.{length, getD, set, length-set, length-replicate, replicate}
 use lib.Seq.{getD-set-same, getD-set-other}
 use Rattle.settings.specs.Alarm.{blank, blanks, empty, formAt}
-use Rattle.settings.specs.Refusals.{leftOver}
+use Rattle.settings.specs.Refusals.{refusal}
 use Rattle.settings.specs.declared.types.Alarm.{Alarm}
 use Rattle.settings.specs.declared.types.Form.{Form}
 use Rattle.settings.specs.declared.types.Form.the-variants.{Digital, Analog}
@@ -159,13 +159,13 @@ module _ (image : List ℕ) (P : Form → Alarm → Type 0)
       read : ℕ → Loaded
       read a = record { settings = record { digital = d; analog = a; alarms = filled .alarms }; reply = Accepted }
 
-      ended : (a end : ℕ) (t : Bool) → filled .section ≡ Read a end → Settled P (cond t (refusedBy (leftOver end)) (read a) .settings)
+      ended : (a end : ℕ) (t : Bool) → filled .section ≡ Read a end → Settled P (cond t (refusedBy (refusal 6 end)) (read a) .settings)
       ended a end true f = settled-none
       ended a end false f =
           let y = section-filling Analog image (P Analog) (each Analog) d next alarms (omega (arith, x .long, length-replicate 24 blank)) f in
           settled-both d a alarms (filled .alarms) m x (y .0) (y .1)
 
-      go : (s : Section) → filled .section ≡ s → Settled P (onSection s (λ a end. cond (ltb end (length image)) (refusedBy (leftOver end)) (read a)) .settings)
+      go : (s : Section) → filled .section ≡ s → Settled P (onSection s (λ a end. cond (ltb end (length image)) (refusedBy (refusal 6 end)) (read a)) .settings)
       go (Read a end) f = ended a end (ltb end (length image)) f
       go (Refused r) f = settled-none
 

@@ -5,7 +5,7 @@ use mathlib.Core.Bool.{cond}
 use lib.Dec.{ltb}
 use lib.ListN.{length}
 use Rattle.settings.specs.Alarm.{blanks, empty}
-use Rattle.settings.specs.Refusals.{leftOver}
+use Rattle.settings.specs.Refusals.{refusal}
 use Rattle.reader.specs.Section.{sectionAt}
 use Rattle.settings.specs.declared.types.Alarm.{Alarm}
 use Rattle.settings.specs.declared.types.Form.the-variants.{Digital, Analog}
@@ -29,7 +29,7 @@ restOf image d at alarms =
     onSection (sectionAt Analog image d at alarms .section)
     (λ a end.
     cond (ltb end (length image))
-    (refusedBy (leftOver end))
+    (refusedBy (refusal 6 end))
     (record {
       settings = record { digital = d; analog = a; alarms = sectionAt Analog image d at alarms .alarms };
       reply = Accepted;

@@ -3,7 +3,7 @@ use mathlib.Core.Bool.{false}
 use mathlib.Core.List.{List}
 use lib.ListN.{replicate}
 use Rattle.wire.specs.Real.{zeroReal}
-use Rattle.settings.specs.Refusals.{noSuchAlarm}
+use Rattle.settings.specs.Refusals.{refusal}
 use Rattle.settings.specs.declared.reply.Refusal.{Refusal}
 use Rattle.settings.specs.declared.reply.Reply.the-variants.{Refused}
 use Rattle.report.specs.declared.status.Status.{Status}
@@ -27,4 +27,4 @@ refusedReport r = record { reply = Refused r; alarm = noWhole; resettime = 0; co
 
 -- there is no such alarm
 unfoldable pub noReport : AlarmReport
-noReport = refusedReport noSuchAlarm
+noReport = refusedReport (refusal 14 0)

@@ -9,7 +9,7 @@ use native.Mathlib.Omega.{arith}
 use lib.Dec.{ltb}
 use lib.ListN.{length, drop}
 use lib.Seq.{sets, sets-eq}
-use Rattle.settings.specs.Refusals.{eventsTooLong}
+use Rattle.settings.specs.Refusals.{refusal}
 use Rattle.settings.specs.declared.reply.Refusal.{Refusal}
 use Rattle.settings.specs.declared.reply.Reply.the-variants.{Accepted, Refused as RefusedBy}
 use Rattle.layout.specs.Internal.Block.{countIn}
@@ -47,7 +47,7 @@ module _ (w : Words) (rec : List ℕ) where
   roomy-out out h = rw (le-ltb (length out) (length (logAfter w rec)) h)
 
   module _ (room : ℕ) (h : room < length (logAfter w rec)) where
-    pub short-answer : Refused eventsTooLong ≡ checkedAnswer w rec room
+    pub short-answer : Refused (refusal 12 0) ≡ checkedAnswer w rec room
     unfolding checkedAnswer
     short-answer = rw (lt-ltb room (length (logAfter w rec)) h)
 
@@ -62,11 +62,11 @@ module _ (w : Words) (rec : List ℕ) where
 -- ---- the bank that the words stand for
 
 answers : (t : Bool) (b b′ : Bank) (k : ℕ)
-    → cond t (refusedScan b eventsTooLong) (record { bank = b′; answer = Events k }) .answer ≡ cond t (Refused eventsTooLong) (Events k)
+    → cond t (refusedScan b (refusal 12 0)) (record { bank = b′; answer = Events k }) .answer ≡ cond t (Refused (refusal 12 0)) (Events k)
 answers true b b′ k = refl
 answers false b b′ k = refl
 
-chosen : (t : Bool) (k : ℕ) (new old : Words) → cond t old new ≡ ifAccepted (cond t (Refused eventsTooLong) (Events k)) new old
+chosen : (t : Bool) (k : ℕ) (new old : Words) → cond t old new ≡ ifAccepted (cond t (Refused (refusal 12 0)) (Events k)) new old
 chosen true k new old = refl
 chosen false k new old = refl
 
@@ -87,7 +87,7 @@ module _ (w : Words) (rec : List ℕ) (accepted : checkOf (bankIn w) rec ≡ Acc
       sym
       (ap (λ (s : Scanned). s .answer) (accepted-scan (bankIn w) rec room accepted)
       ∙ answers (ltb room (16 * length (eventsIn (bankIn w) rec))) (bankIn w) (bankAfter (bankIn w) rec) (length (eventsIn (bankIn w) rec))
-      ∙ (λ i. cond (short-is room i) (Refused eventsTooLong) (Events (length (events-are w rec accepted i)))))
+      ∙ (λ i. cond (short-is room i) (Refused (refusal 12 0)) (Events (length (events-are w rec accepted i)))))
 
   pub words-are : (room : ℕ) → checkedWords w rec room ≡ bankWords w rec room
   unfolding checkedWords checkedAnswer bankWords

@@ -7,7 +7,7 @@ use native.Mathlib.Omega.{arith}
 use borrow.Author.Tests.{ltb-false}
 use lib.Dec.{eqb}
 use lib.ListN.{length, drop, length-append, length-drop, length-set}
-use Rattle.settings.specs.Refusals.{eventsTooLong}
+use Rattle.settings.specs.Refusals.{refusal}
 use Rattle.layout.specs.Internal.Block.{noBank, countIn, isBlock}
 use Rattle.settings.specs.declared.reply.Reply.{Reply}
 use Rattle.settings.specs.declared.reply.Reply.the-variants.{Accepted, Refused as RefusedBy}
@@ -28,7 +28,7 @@ use Rattle.sweep.proofs.Loops.{stepped-length, marked-length}
 
 -- a choice of refusal or events that ended in events
 took : (t : Bool) (b b′ : Bank) {m n : ℕ}
-    → cond t (refusedScan b eventsTooLong) (record { bank = b′; answer = Events m }) .answer ≡ Events n → (t ≡ false) × (m ≡ n)
+    → cond t (refusedScan b (refusal 12 0)) (record { bank = b′; answer = Events m }) .answer ≡ Events n → (t ≡ false) × (m ≡ n)
 took true b b′ e = let z : _≡_ {A = ℕ} 0 1 = cc in absurd (omega arith)
 took false b b′ e = (refl, cc)
 

@@ -4,10 +4,11 @@ use mathlib.Core.List.{List}
 use Prim.Native.Nat.{ℕ, zero, suc, _+_, _^_, _≤_, _<_}
 use native.Mathlib.Omega.{arith}
 use lib.ListN.{length, getD, replicate, length-append}
+use Rattle.settings.specs.Internal.Reals.{realAnalog}
 use Rattle.wire.specs.Bits.{bit}
 use Rattle.wire.proofs.WordLaws.{word-lt}
 use Rattle.settings.specs.Alarm.{blank, formAt}
-use Rattle.settings.specs.Numbers.{reals, realAnalog}
+use Rattle.settings.specs.Numbers.{reals}
 use Rattle.settings.specs.declared.types.Alarm.{Alarm}
 use Rattle.settings.specs.declared.types.Kind.{Kind}
 use Rattle.settings.specs.declared.types.Kind.the-variants.{Digital, Analog}

@@ -2,7 +2,7 @@
 ghost use mathlib.Core.Path.{_≡_};
 ghost use Prim.Native.Nat.{_+_, _*_, _≤_};
 ghost use lib.ListN.{length};
-ghost use Rattle.settings.specs.Refusals.{eventsTooLong};
+ghost use Rattle.settings.specs.Refusals.{refusal};
 ghost use Rattle.bank.specs.Internal.Words.{wordsIn, bankIn};
 ghost use Rattle.sweep.specs.Internal.Sweep.{Ready};
 ghost use Rattle.scan.specs.Internal.Scan.{eventBuffer};
@@ -31,7 +31,7 @@ fn most_bytes(digital: usize, analog: usize) -> usize
 
 // The events of a scan need more bytes than the buffer has.
 fn too_long() -> Answer
-    ensures { λ r. ⌜ r ≡ Answer.Refused eventsTooLong ⌝ }
+    ensures { λ r. ⌜ r ≡ Answer.Refused (refusal 12 0) ⌝ }
 {
     Answer::Refused(Refusal {
         number: EVENTS_TOO_LONG,

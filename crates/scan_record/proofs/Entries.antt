@@ -10,7 +10,7 @@ use lib.Dec.{ltb, leb, eqb}
 use lib.ListN.{length}
 use Rattle.wire.proofs.Laws.{and-true, most-true}
 use Rattle.wire.specs.Bits.{setsOnly}
-use Rattle.settings.specs.Refusals.{unknownCommand, wrongLength, earlierTime, checked}
+use Rattle.settings.specs.Refusals.{checked, refusal}
 use Rattle.settings.specs.declared.types.Form.{Form}
 use Rattle.settings.specs.declared.types.Form.the-variants.{Digital, Analog}
 use Rattle.settings.specs.declared.reply.Refusal.{Refusal}
@@ -40,7 +40,7 @@ pub entry-read : (form : Form) (bytes : List ℕ) (at alarm : ℕ) {x : Reading}
     → Read (readingAt form bytes at) (wordAt form bytes at) (at + entrySize form) ≡ Read x word next
 unfolding entryAt
 entry-read form bytes at alarm e =
-    stands (readingCheck form bytes at alarm ∷ (unknownCommand alarm, setsOnly (bitsOf form) 32 (wordAt form bytes at)) ∷ []) e
+    stands (readingCheck form bytes at alarm ∷ (refusal 11 alarm, setsOnly (bitsOf form) 32 (wordAt form bytes at)) ∷ []) e
 
 pub entry-past : (form : Form) (bytes : List ℕ) (at alarm : ℕ) {x : Reading} {word next : ℕ} → entryAt form bytes at alarm ≡ Read x word next
     → next ≡ at + entrySize form
@@ -126,5 +126,5 @@ pub accepted-says : (digital analog last : ℕ) (rec : List ℕ) → checkRecord
     → Whole digital analog (length rec) × (last ≤ timeOf rec) × (checkFrom rec digital (digital + analog) 0 8 ≡ Accepted)
 unfolding checkRecord
 accepted-says digital analog last rec e =
-    let t = passed (whole digital analog (length rec)) (ltb (timeOf rec) last) earlierTime wrongLength (checkFrom rec digital (digital + analog) 0 8) e in
+    let t = passed (whole digital analog (length rec)) (ltb (timeOf rec) last) (refusal 8 0) (refusal 7 0) (checkFrom rec digital (digital + analog) 0 8) e in
     (whole-says digital analog (length rec) (t .0), ltb-false (timeOf rec) last (t .1), t .2)

@@ -4,7 +4,7 @@ use mathlib.Core.List.{List}
 use mathlib.Core.Bool.{Bool, _&&_, cond}
 use lib.Dec.{leb, ltb, eqb}
 use lib.ListN.{length}
-use Rattle.settings.specs.Refusals.{wrongLength, earlierTime}
+use Rattle.settings.specs.Refusals.{refusal}
 use Rattle.settings.specs.declared.reply.Refusal.{Refusal}
 use Rattle.settings.specs.declared.reply.Reply.{Reply}
 use Rattle.settings.specs.declared.reply.Reply.the-variants.{Accepted, Refused as RefusedBy}
@@ -35,5 +35,5 @@ whole digital analog len = leb digital 12 && leb analog 12 && eqb len (recordSiz
 unfoldable pub checkRecord : ℕ → ℕ → ℕ → List ℕ → Reply
 checkRecord digital analog last rec =
     cond (whole digital analog (length rec))
-    (cond (ltb (timeOf rec) last) (RefusedBy earlierTime) (checkFrom rec digital (digital + analog) 0 8))
-    (RefusedBy wrongLength)
+    (cond (ltb (timeOf rec) last) (RefusedBy (refusal 8 0)) (checkFrom rec digital (digital + analog) 0 8))
+    (RefusedBy (refusal 7 0))

@@ -6,7 +6,7 @@ use lib.Dec.{leb}
 use lib.ListN.{getD}
 use Rattle.wire.specs.Real.{realAt, bounded}
 use Rattle.wire.specs.Bits.{setsOnly}
-use Rattle.settings.specs.Refusals.{notABit, badReal, unknownCommand, checked}
+use Rattle.settings.specs.Refusals.{checked, refusal}
 use Rattle.settings.specs.declared.reply.Refusal.{Refusal}
 use Rattle.settings.specs.declared.types.Form.{Form}
 use Rattle.settings.specs.declared.types.Form.the-variants.{Digital, Analog}
@@ -21,12 +21,12 @@ bitsOf Analog = 0 ∷ 2 ∷ 3 ∷ 4 ∷ 5 ∷ 6 ∷ 7 ∷ 9 ∷ 10 ∷ 11 ∷ 12
 
 -- a digital reading is a byte that is 0 or 1, an analog one a REAL within the bound
 abbrev pub readingCheck : Form → List ℕ → ℕ → ℕ → Refusal × Bool
-readingCheck Digital rec at alarm = (notABit alarm, leb (getD rec at 0) 1)
-readingCheck Analog rec at alarm = (badReal alarm, bounded (realAt rec at))
+readingCheck Digital rec at alarm = (refusal 9 alarm, leb (getD rec at 0) 1)
+readingCheck Analog rec at alarm = (refusal 10 alarm, bounded (realAt rec at))
 
 -- the reading, then the word's 32 bits
 unfoldable pub entryAt : Form → List ℕ → ℕ → ℕ → Entry
 entryAt form rec at alarm =
     checked Refused
-    (readingCheck form rec at alarm ∷ (unknownCommand alarm, setsOnly (bitsOf form) 32 (wordAt form rec at)) ∷ [])
+    (readingCheck form rec at alarm ∷ (refusal 11 alarm, setsOnly (bitsOf form) 32 (wordAt form rec at)) ∷ [])
     (Read (readingAt form rec at) (wordAt form rec at) (at + entrySize form))

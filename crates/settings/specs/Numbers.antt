@@ -8,9 +8,7 @@ use lib.ListN.{getD}
 use lib.IntN.{pos}
 use lib.Ieee.{Float, binary32, ofBits, ofInt, lt, le, neg, add, sub, mul, div}
 use Rattle.wire.specs.Real.{zeroReal, bounded}
-use Rattle.settings.specs.Alarm.{limitsOf, periodOf}
 use Rattle.settings.specs.Condition.{Condition, numberOf}
-use Rattle.settings.specs.declared.types.Alarm.{Alarm}
 use Rattle.settings.specs.declared.types.Limits.{Limits}
 use Rattle.settings.specs.declared.types.Reading.{Reading}
 use Rattle.settings.specs.declared.types.Reading.the-variants.{Digital, Level}
@@ -69,6 +67,3 @@ realLimit g c = getD (zeroReal ∷ g .hh ∷ g .h ∷ g .l ∷ g .ll ∷ g .rocp
 
 abbrev pub analogReals : ℕ → ℕ → Limits → ℕ → AnalogOf Float
 analogReals flags duration g period = record { flags = flags; duration = duration; period = period; deadband = g .deadband; limit = realLimit g }
-
-abbrev pub realAnalog : Alarm → AnalogOf Float
-realAnalog a = analogReals (a .flags) (a .duration) (limitsOf (a .kind)) (periodOf (a .kind))

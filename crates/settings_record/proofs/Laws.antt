@@ -7,7 +7,7 @@ use native.Mathlib.Omega.{arith}
 use borrow.Author.Tests.{leb-true}
 use lib.Dec.{leb}
 use lib.ListN.{length}
-use Rattle.settings.specs.Refusals.{incomplete, checked}
+use Rattle.settings.specs.Refusals.{checked, refusal}
 use Rattle.settings.specs.declared.types.Alarm.{Alarm}
 use Rattle.settings.specs.declared.types.Form.{Form}
 use Rattle.settings.specs.declared.reply.Refusal.{Refusal}
@@ -42,7 +42,7 @@ unfolding recordAt
 was-read form image at {a} {next} e =
     let x = fieldsAt form image at in
     let row = checksOf (x .kind) (x .flags) (x .duration) at in
-    let p = all-passed ((incomplete at, leb (at + sizeOf form) (length image)) ∷ row) (Recorded x (at + sizeOf form)) e in
+    let p = all-passed ((refusal 1 at, leb (at + sizeOf form) (length image)) ∷ row) (Recorded x (at + sizeOf form)) e in
     let same = p .1 in
     let a≡ : x ≡ a = cc in
     let n≡ : next ≡ at + sizeOf form = cc in

@@ -7,7 +7,7 @@ use lib.ListN.{length, getD}
 use lib.Ieee.{Float}
 use Rattle.wire.specs.Number.{number}
 use Rattle.wire.specs.Real.{realAt}
-use Rattle.settings.specs.Refusals.{outOfRange, unknownFlag, wrongLimits, incomplete, checked}
+use Rattle.settings.specs.Refusals.{checked, refusal}
 use Rattle.settings.specs.Numbers.{reals, realLimit}
 use Rattle.settings.specs.Rules.{durationInRange, inRange, apart}
 use Rattle.settings.specs.declared.types.Limits.{Limits}
@@ -53,15 +53,15 @@ fieldsAt AnalogForm image at =
 
 -- 3 a flag above bit 2, or above bit 4 of an analog alarm; 4 a number out of its range; 5 the order of levels or Deadband
 abbrev pub checksOf : Kind → ℕ → ℕ → ℕ → List (Refusal × Bool)
-checksOf (Digital severity) flags duration at = (unknownFlag at, ltb flags 8) ∷ (outOfRange at, durationInRange duration) ∷ []
+checksOf (Digital severity) flags duration at = (refusal 3 at, ltb flags 8) ∷ (refusal 4 at, durationInRange duration) ∷ []
 checksOf (Analog g severities period) flags duration at =
-    (unknownFlag at, ltb flags 32) ∷ (outOfRange at, inRange reals (realLimit g) (g .deadband) period duration)
-    ∷ (wrongLimits at, apart reals flags (realLimit g) (g .deadband)) ∷ []
+    (refusal 3 at, ltb flags 32) ∷ (refusal 4 at, inRange reals (realLimit g) (g .deadband) period duration)
+    ∷ (refusal 5 at, apart reals flags (realLimit g) (g .deadband)) ∷ []
 
 -- 1 where the record is incomplete, then the checks of its alarm
 unfoldable pub recordAt : Form → List ℕ → ℕ → Record
 recordAt form image at =
     let a = fieldsAt form image at in
     checked Refused
-    ((incomplete at, leb (at + sizeOf form) (length image)) ∷ checksOf (a .kind) (a .flags) (a .duration) at)
+    ((refusal 1 at, leb (at + sizeOf form) (length image)) ∷ checksOf (a .kind) (a .flags) (a .duration) at)
     (Read a (at + sizeOf form))

@@ -9,12 +9,12 @@ use lib.Dec.{leb}
 use lib.ListN.{getD, set, take, drop}
 use lib.Seq.{sets, set-comm, set-getD}
 use lib.Ieee.{Float, binary32, ofBits}
+use Rattle.settings.specs.Internal.Reals.{limitsOf, realAnalog}
 use Rattle.wire.specs.Bits.{bit}
 use Rattle.wire.specs.Internal.Words.{wordOf, spread}
 use Rattle.wire.proofs.WordLaws.{bit-digit, word-low}
 use Rattle.wire.proofs.MaskLaws.{bit-spread}
-use Rattle.settings.specs.Alarm.{limitsOf}
-use Rattle.settings.specs.Numbers.{AnalogOf, valueOf, newRate, realOf, reals, realAnalog, analogReals}
+use Rattle.settings.specs.Numbers.{AnalogOf, valueOf, newRate, realOf, reals, analogReals}
 use Rattle.settings.specs.declared.types.Alarm.{Alarm}
 use Rattle.settings.specs.declared.types.Reading.{Reading}
 use Rattle.layout.specs.Internal.Words.{lowerOf, upperOf, pairOf}

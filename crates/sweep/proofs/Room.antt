@@ -6,9 +6,10 @@ use native.Mathlib.Nat.{mul-suc}
 use native.Mathlib.Numerals.{add-one}
 use native.Mathlib.Omega.{arith}
 use lib.ListN.{length}
+use Rattle.settings.specs.Internal.Reals.{realAnalog}
 use Rattle.wire.specs.Bits.{bit}
 use Rattle.settings.specs.Alarm.{formAt}
-use Rattle.settings.specs.Numbers.{reals, realAnalog}
+use Rattle.settings.specs.Numbers.{reals}
 use Rattle.settings.specs.declared.types.Alarm.{Alarm}
 use Rattle.settings.specs.declared.types.Form.{Form}
 use Rattle.settings.specs.declared.types.Form.the-variants.{Digital, Analog}

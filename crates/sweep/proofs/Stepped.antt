@@ -7,10 +7,11 @@ use lib.Ieee.{binary32}
 use lib.Ieee.Bits.{ofBits-fits}
 use lib.ListN.{length, getD}
 use lib.Seq.{sets}
+use Rattle.settings.specs.Internal.Reals.{realAnalog}
 use Rattle.wire.specs.Bits.{bit}
 use Rattle.wire.specs.Number.{number}
 use Rattle.settings.specs.Alarm.{formAt}
-use Rattle.settings.specs.Numbers.{reals, realAnalog}
+use Rattle.settings.specs.Numbers.{reals}
 use Rattle.settings.specs.declared.types.Alarm.{Alarm}
 use Rattle.settings.specs.declared.types.Form.{Form}
 use Rattle.settings.specs.declared.types.Form.the-variants.{Digital, Analog}

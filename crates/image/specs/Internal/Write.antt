@@ -7,7 +7,7 @@ use lib.ListN.{length, drop}
 use lib.Seq.{slice}
 use lib.Ieee.{binary32, toBits}
 use Rattle.wire.specs.Internal.Words.{words}
-use Rattle.settings.specs.Refusals.{imageTooLong}
+use Rattle.settings.specs.Refusals.{refusal}
 use Rattle.settings_record.specs.Record.{sizeOf}
 use Rattle.layout.specs.Internal.Block.{noBank}
 use Rattle.settings.specs.Alarm.{blanks}
@@ -73,7 +73,7 @@ hasRoom d a n = leb d 12 && leb a 12 && leb (sizeOfImage d a) n
 
 -- the image's length, or 13
 unfoldable pub writtenOf : Settings → ℕ → Written
-writtenOf s n = cond (hasRoom (s .digital) (s .analog) n) (Length (length (imageOf s))) (Refused imageTooLong)
+writtenOf s n = cond (hasRoom (s .digital) (s .analog) n) (Length (length (imageOf s))) (Refused (refusal 13 0))
 
 -- the image in front of what stood behind it; a refusal leaves every byte
 unfoldable pub imageBuffer : Settings → List ℕ → List ℕ

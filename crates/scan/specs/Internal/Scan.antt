@@ -4,7 +4,7 @@ use mathlib.Core.List.{List, _++_}
 use mathlib.Core.Bool.{Bool, cond}
 use lib.Dec.{ltb}
 use lib.ListN.{length, getD, drop}
-use Rattle.settings.specs.Refusals.{eventsTooLong}
+use Rattle.settings.specs.Refusals.{refusal}
 use Rattle.settings.specs.declared.reply.Refusal.{Refusal}
 use Rattle.settings.specs.declared.reply.Reply.{Reply}
 use Rattle.condition.specs.Event.{Event, logBytes}
@@ -71,7 +71,7 @@ refusedScan b r = record { bank = b; answer = Refused r }
 unfoldable pub checkedScan : Bank → List ℕ → ℕ → Scanned
 checkedScan b rec room =
     cond (tooShort b rec room)
-    (refusedScan b eventsTooLong)
+    (refusedScan b (refusal 12 0))
     (record { bank = bankAfter b rec; answer = Events (length (eventsIn b rec)) })
 
 -- the event records in front of what stood behind them; a refusal leaves every byte

@@ -5,7 +5,7 @@ use mathlib.Core.List.{List}
 use lib.Dec.{ltb}
 use lib.ListN.{length}
 use lib.Seq.{sets}
-use Rattle.settings.specs.Refusals.{eventsTooLong}
+use Rattle.settings.specs.Refusals.{refusal}
 use Rattle.layout.specs.Internal.Block.{countIn}
 use Rattle.bank.specs.Lent.{Words}
 use Rattle.bank.specs.Internal.Words.{onReply, fitOf, bankIn}
@@ -22,7 +22,7 @@ module _ (w : Words) (rec : List ℕ) where
   shortFor room = ltb room (length (logAfter w rec))
 
   unfoldable pub checkedAnswer : ℕ → Answer
-  checkedAnswer room = cond (shortFor room) (Refused eventsTooLong) (Events (length (loggedFrom w rec 0 (countIn (w .settings)))))
+  checkedAnswer room = cond (shortFor room) (Refused (refusal 12 0)) (Events (length (loggedFrom w rec 0 (countIn (w .settings)))))
 
   unfoldable pub checkedWords : ℕ → Words
   checkedWords room = cond (shortFor room) w (wordsAfter w rec)

@@ -1,10 +1,11 @@
 -- One scan of one alarm, by its kind.
 use Prim.Native.Nat.{ℕ}
+use Rattle.settings.specs.Internal.Reals.{realAnalog}
 use Rattle.settings.specs.declared.types.Alarm.{Alarm}
 use Rattle.settings.specs.declared.types.Kind.{Kind}
 use Rattle.settings.specs.declared.types.Kind.the-variants.{Digital, Analog}
 use Rattle.settings.specs.declared.types.Reading.{Reading}
-use Rattle.settings.specs.Numbers.{reals, realAnalog}
+use Rattle.settings.specs.Numbers.{reals}
 use Rattle.step.specs.Internal.Held.{realPatterns}
 use Rattle.step.specs.Internal.Digital.{digitalStep}
 use Rattle.step.specs.Internal.Analog.{analogStep}

@@ -10,10 +10,11 @@ use native.Mathlib.Omega.{arith}
 use lib.ListN.{getD}
 use lib.Seq.{sets}
 use lib.Ieee.{Float, binary32, ofBits}
+use Rattle.settings.specs.Internal.Reals.{realAnalog}
 use Rattle.wire.specs.Bits.{bit}
 use Rattle.wire.specs.Internal.Words.{wordOf, spread}
 use Rattle.wire.proofs.Laws.{and-true}
-use Rattle.settings.specs.Numbers.{AnalogOf, realOf, reals, realAnalog, analogReals}
+use Rattle.settings.specs.Numbers.{AnalogOf, realOf, reals, analogReals}
 use Rattle.settings.specs.declared.types.Alarm.{Alarm}
 use Rattle.settings.specs.declared.types.Form.the-variants.{Analog}
 use Rattle.settings.specs.declared.types.Reading.{Reading}
