@@ -25,7 +25,7 @@ use Rattle.settings_record.specs.declared.record.Record.the-variants.{Al
 abbrev pub wordPlace : ℕ → ℕ → ℕ
 wordPlace at k = at + (1 + 4 * k)
 
--- how many bytes a record has: two words, or fifteen
+-- how many bytes a record has: 9 with two words, 61 with fifteen
 abbrev pub sizeOf : Form → ℕ
 sizeOf DigitalForm = wordPlace 0 2
 sizeOf AnalogForm = wordPlace 0 15
