@@ -130,6 +130,22 @@ fn run_report(
     )
 }
 
+// Runs a call that is lent a buffer. `bytes` has what it hands on.
+fn run_lent(
+    settings: &mut [u64; SETTINGS_WORDS],
+    states: &mut [u64; STATES_WORDS],
+    marks: &mut [u64; MARKS_WORDS],
+    name: usize,
+    bytes: &[u8],
+    lent: &mut [u8],
+) -> Said {
+    match name {
+        SETTINGS => run_settings(settings, states, marks, bytes),
+        SCAN => run_scan(settings, states, marks, bytes, lent),
+        _ => run_write(settings, lent),
+    }
+}
+
 // Lends a call its buffer, runs and answers it. `bytes` has what it hands on.
 fn run_call(
     settings: &mut [u64; SETTINGS_WORDS],
@@ -145,12 +161,7 @@ fn run_call(
     let lent = &mut space[0..size];
     fill(lent);
     let given = part(bytes, 0, call.values[BYTES]);
-    let name = call.name;
-    let said = match name {
-        SETTINGS => run_settings(settings, states, marks, given),
-        SCAN => run_scan(settings, states, marks, given, lent),
-        _ => run_write(settings, lent),
-    };
+    let said = run_lent(settings, states, marks, call.name, given, lent);
     add_said(text, waiting, said, lent)
 }
 

@@ -10,18 +10,18 @@ use text::pieces::tell_failure;
 // 843, as the first byte left over does, which is the place of refusal 6.
 const IMAGE_SIZE: usize = 1024;
 
-// Puts the front of bank.set into a block and answers its length. A missing file counts as no bytes. So does one that can't be
+// Puts the front of a file into a block and answers its length. A missing file counts as no bytes. So does one that can't be
 // opened or read; standard error then has the reason.
-pub fn read_image(block: &mut [u8; BLOCK_SIZE], text: &[u8; TEXT_SIZE]) -> usize {
-    let file = os::open_read(b"bank.set");
+pub fn read_image(name: &[u8], block: &mut [u8; BLOCK_SIZE], text: &[u8; TEXT_SIZE]) -> usize {
+    let file = os::open_read(name);
     if file < 0 {
         if os::errno() != ENOENT {
-            os::fail(b"bank.set");
+            os::fail(name);
         }
         return 0;
     }
     let image = next_piece(no_piece(file, IMAGE_SIZE), block, text);
-    tell_failure(image, b"bank.set");
+    tell_failure(image, name);
     libc::close(file);
     image.end
 }

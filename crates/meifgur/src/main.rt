@@ -35,7 +35,7 @@ fn main() {
     let mut settings = [0u64; SETTINGS_WORDS];
     let mut states = [0u64; STATES_WORDS];
     let mut marks = [0u64; MARKS_WORDS];
-    let length = read_image(&mut block, &text);
+    let length = read_image(b"bank.set", &mut block, &text);
     match load_bank(&mut settings, &mut states, &mut marks, &block, length) {
         Reply::Accepted => run_input(&settings, &mut states, &mut marks, &mut block, &mut text),
         Reply::Refused(refusal) => {
