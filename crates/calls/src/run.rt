@@ -1,18 +1,24 @@
-// Calls run on a bank in its three blocks. Each function adds the reply to what waits and answers how much waits then.
-use crate::call::NONE;
+// Calls run on a bank in its three blocks.
+use crate::call::Call;
 use crate::call::REPORT;
 use crate::call::SCAN;
 use crate::call::SETTINGS;
-use crate::call::WRITE;
 use crate::call::call_of;
-use crate::fault::add_no_call;
+use crate::fault::NONE;
+use crate::fault::add_fault;
+use crate::lent::LENT_SIZE;
 use crate::lent::fill;
 use crate::lent::lent_size;
-use crate::reply::add_loaded;
-use crate::reply::add_refused;
-use crate::reply::add_written;
-use crate::report_text::add_conditions;
-use crate::report_text::add_whole;
+use crate::reply::NO_BYTES;
+use crate::reply::NUMBER_ONLY;
+use crate::reply::Said;
+use crate::reply::WITH_BYTES;
+use crate::reply::add_report;
+use crate::reply::add_said;
+use crate::spelling::BYTES;
+use crate::spelling::BYTES_SIZE;
+use crate::spelling::NUMBER;
+use crate::spelling::ROOM;
 use bank::load::load;
 use image::write::Written;
 use image::write::write;
@@ -24,9 +30,10 @@ use layout::sizes::STATES_WORDS;
 use report::report::report;
 use scan::answer::Answer;
 use scan::scan::scan;
+use settings::reply::Refusal;
 use settings::reply::Reply;
 use text::input::part;
-use text::pieces::PIECE_SIZE;
+use text::output::TEXT_SIZE;
 
 // Bytes of an event record.
 const EVENT_SIZE: usize = 16;
@@ -48,59 +55,39 @@ fn events_length(number: usize, room: usize) -> usize {
     }
 }
 
-// Adds the answer to a scan with a lent buffer.
-fn add_scanned(text: &mut [u8], waiting: usize, answer: Answer, lent: &[u8]) -> usize {
-    match answer {
-        Answer::Events(number) => {
-            let length = events_length(number, lent.len());
-            add_written(text, waiting, number, lent, length)
-        }
-        Answer::Refused(refusal) => add_refused(text, waiting, refusal, lent),
+// The answer with a number and bytes.
+fn written(number: usize, length: usize) -> Said {
+    Said {
+        reply: Reply::Accepted,
+        form: if length == 0 { NO_BYTES } else { WITH_BYTES },
+        number: number as u64,
+        length,
     }
 }
 
-// Writes a bank's settings to a lent buffer.
-fn run_write(settings: &[u64], lent: &mut [u8], text: &mut [u8], waiting: usize) -> usize {
-    match write(settings, lent) {
-        Written::Length(length) => add_written(text, waiting, length, lent, length),
-        Written::Refused(refusal) => add_refused(text, waiting, refusal, lent),
-    }
-}
-
-fn run_report(
-    settings: &[u64; SETTINGS_WORDS],
-    states: &[u64; STATES_WORDS],
-    marks: &[u64; MARKS_WORDS],
-    alarm: usize,
-    text: &mut [u8],
-    waiting: usize,
-) -> usize {
-    let is_digital = alarm <= settings[DIGITAL_COUNT] as usize;
-    let found = report(settings, states, marks, alarm);
-    let reply = found.reply;
-    let whole = found.alarm;
-    let conditions = found.conditions;
-    match reply {
-        Reply::Accepted => {
-            let at = add_whole(text, waiting, whole, found.resettime);
-            add_conditions(text, at, is_digital, conditions)
-        }
-        Reply::Refused(refusal) => add_refused(text, waiting, refusal, &[]),
+fn refused(refusal: Refusal) -> Said {
+    Said {
+        reply: Reply::Refused(refusal),
+        form: 0,
+        number: 0,
+        length: 0,
     }
 }
 
 // Makes a new bank.
-fn run_settings(
+pub fn run_settings(
     settings: &mut [u64; SETTINGS_WORDS],
     states: &mut [u64; STATES_WORDS],
     marks: &mut [u64; MARKS_WORDS],
     image: &[u8],
-    text: &mut [u8],
-    waiting: usize,
-) -> usize {
+) -> Said {
     let reply = load(image, settings, states, marks);
-    let alarms = alarms_in(settings[DIGITAL_COUNT], settings[ANALOG_COUNT]);
-    add_loaded(text, waiting, reply, alarms)
+    Said {
+        reply,
+        form: NUMBER_ONLY,
+        number: alarms_in(settings[DIGITAL_COUNT], settings[ANALOG_COUNT]),
+        length: 0,
+    }
 }
 
 // Runs a scan with a lent buffer.
@@ -110,32 +97,72 @@ fn run_scan(
     marks: &mut [u64; MARKS_WORDS],
     record: &[u8],
     lent: &mut [u8],
-    text: &mut [u8],
-    waiting: usize,
-) -> usize {
-    let answer = scan(settings, states, marks, record, lent);
-    add_scanned(text, waiting, answer, lent)
+) -> Said {
+    let room = lent.len();
+    match scan(settings, states, marks, record, lent) {
+        Answer::Events(number) => written(number, events_length(number, room)),
+        Answer::Refused(refusal) => refused(refusal),
+    }
 }
 
-// Runs a call. `bytes` has what it hands on, `lent` is what it is lent.
-fn run_call(
+// Writes a bank's settings to a lent buffer.
+fn run_write(settings: &[u64], lent: &mut [u8]) -> Said {
+    match write(settings, lent) {
+        Written::Length(length) => written(length, length),
+        Written::Refused(refusal) => refused(refusal),
+    }
+}
+
+fn run_report(
+    settings: &[u64; SETTINGS_WORDS],
+    states: &[u64; STATES_WORDS],
+    marks: &[u64; MARKS_WORDS],
+    alarm: usize,
+    text: &mut [u8; TEXT_SIZE],
+    waiting: usize,
+) -> usize {
+    let found = report(settings, states, marks, alarm);
+    add_report(
+        text,
+        waiting,
+        found,
+        alarm <= settings[DIGITAL_COUNT] as usize,
+    )
+}
+
+// Runs a call that is lent a buffer. `bytes` has what it hands on.
+fn run_lent(
     settings: &mut [u64; SETTINGS_WORDS],
     states: &mut [u64; STATES_WORDS],
     marks: &mut [u64; MARKS_WORDS],
     name: usize,
-    number: usize,
     bytes: &[u8],
     lent: &mut [u8],
-    text: &mut [u8],
+) -> Said {
+    match name {
+        SETTINGS => run_settings(settings, states, marks, bytes),
+        SCAN => run_scan(settings, states, marks, bytes, lent),
+        _ => run_write(settings, lent),
+    }
+}
+
+// Lends a call its buffer, runs and answers it. `bytes` has what it hands on.
+fn run_call(
+    settings: &mut [u64; SETTINGS_WORDS],
+    states: &mut [u64; STATES_WORDS],
+    marks: &mut [u64; MARKS_WORDS],
+    call: Call,
+    bytes: &[u8; BYTES_SIZE],
+    text: &mut [u8; TEXT_SIZE],
     waiting: usize,
 ) -> usize {
-    match name {
-        SETTINGS => run_settings(settings, states, marks, bytes, text, waiting),
-        SCAN => run_scan(settings, states, marks, bytes, lent, text, waiting),
-        REPORT => run_report(settings, states, marks, number, text, waiting),
-        WRITE => run_write(settings, lent, text, waiting),
-        _ => waiting,
-    }
+    let mut space = [0u8; LENT_SIZE];
+    let size = lent_size(call.values[ROOM]);
+    let lent = &mut space[0..size];
+    fill(lent);
+    let given = part(bytes, 0, call.values[BYTES]);
+    let said = run_lent(settings, states, marks, call.name, given, lent);
+    add_said(text, waiting, said, lent)
 }
 
 // Runs and answers a line.
@@ -145,28 +172,16 @@ pub fn run_line(
     marks: &mut [u64; MARKS_WORDS],
     line: &[u8],
     is_cut: bool,
-    text: &mut [u8],
+    text: &mut [u8; TEXT_SIZE],
     waiting: usize,
 ) -> usize {
-    let mut bytes = [0u8; PIECE_SIZE / 2];
-    let mut space = io::large_buffer();
+    let mut bytes = [0u8; BYTES_SIZE];
     let call = call_of(line, is_cut, &mut bytes);
-    if call.name == NONE {
-        return add_no_call(text, waiting, line, call.bad, call.fault);
+    if call.fault != NONE {
+        return add_fault(text, waiting, line, call.bad, call.fault);
     }
-    let size = lent_size(call.room);
-    let lent = &mut space[0..size];
-    fill(lent);
-    let given = part(&bytes, 0, call.size);
-    run_call(
-        settings,
-        states,
-        marks,
-        call.name,
-        call.number,
-        given,
-        lent,
-        text,
-        waiting,
-    )
+    if call.name == REPORT {
+        return run_report(settings, states, marks, call.values[NUMBER], text, waiting);
+    }
+    run_call(settings, states, marks, call, &bytes, text, waiting)
 }

@@ -4,14 +4,34 @@ use crate::fault::MISSING;
 use crate::fault::NO_BYTES;
 use crate::fault::NO_NUMBER;
 use crate::fault::NO_ROLE;
+use crate::fault::NONE;
 use crate::fault::TOO_LARGE;
 use crate::lent::LENT_SIZE;
 use crate::words::is_same;
+use text::pieces::PIECE_SIZE;
 
-// The number that a word spells, or how many bytes; or what is wrong with it.
-pub enum Spelling {
-    Value(usize),
-    Bad(usize),
+// What a word should be: the length of a buffer, a number, bytes, a role, of which there is none yet, or the line's end.
+pub const ROOM: usize = 0;
+
+pub const NUMBER: usize = 1;
+
+pub const BYTES: usize = 2;
+
+pub const ROLE: usize = 3;
+
+pub const END: usize = 4;
+
+// How many bytes the longest line spells.
+pub const BYTES_SIZE: usize = PIECE_SIZE / 2;
+
+// The number that a word spells, or how many bytes; and what is wrong with it.
+pub struct Spelling {
+    pub value: usize,
+    pub fault: usize,
+}
+
+fn spelt(value: usize, fault: usize) -> Spelling {
+    Spelling { value, fault }
 }
 
 // The value of a hexadecimal digit, and 16 of any other character.
@@ -31,66 +51,55 @@ fn number(word: &[u8], most: usize) -> Spelling {
     while i < word.len() {
         let digit = digit(word[i]) as usize;
         if 9 < digit {
-            return Spelling::Bad(NO_NUMBER);
+            return spelt(0, NO_NUMBER);
         }
         if (usize::MAX - digit) / 10 < n {
-            return Spelling::Bad(NO_NUMBER);
+            return spelt(0, NO_NUMBER);
         }
         n = n * 10 + digit;
         i += 1;
     }
     if most < n {
-        return Spelling::Bad(TOO_LARGE);
+        return spelt(0, TOO_LARGE);
     }
-    Spelling::Value(n)
+    spelt(n, NONE)
 }
 
 // Puts the bytes that pairs of digits spell in front.
-fn put_bytes(bytes: &mut [u8], word: &[u8]) -> Spelling {
+fn put_bytes(bytes: &mut [u8; BYTES_SIZE], word: &[u8]) -> Spelling {
     let mut are_digits = word.len() % 2 == 0;
-    let mut at = 0;
     let mut i = 0;
-    while i + 1 < word.len() {
-        if bytes.len() <= at {
-            return Spelling::Bad(NO_BYTES);
-        }
-        let high = digit(word[i]);
-        let low = digit(word[i + 1]);
-        are_digits = are_digits & (high < 16) & (low < 16);
-        bytes[at] = high % 16 * 16 + low % 16;
-        at += 1;
-        i += 2;
+    while i < word.len() && i < PIECE_SIZE {
+        let digit = digit(word[i]);
+        let at = i / 2 % BYTES_SIZE;
+        are_digits = are_digits & (digit < 16);
+        bytes[at] = bytes[at] % 16 * 16 + digit % 16;
+        i += 1;
     }
     if are_digits {
-        Spelling::Value(at)
-    } else {
-        Spelling::Bad(NO_BYTES)
+        return spelt(i / 2, NONE);
     }
+    spelt(0, NO_BYTES)
 }
 
-// Whether a word may be missing or `-`: it should be the line's end, or a role or bytes that there are none of.
-fn is_none(kind: u8, word: &[u8]) -> bool {
-    if kind == b'e' {
-        word.len() == 0
-    } else {
-        is_same(word, b"-") & ((kind == b'o') | (kind == b'b'))
-    }
+// Whether a word may be `-`: it should be a role or bytes, and there is none.
+fn is_none(kind: usize, word: &[u8]) -> bool {
+    is_same(word, b"-") & ((kind == ROLE) | (kind == BYTES))
 }
 
-// What a word spells that should be a number `n`, the length `l` of a buffer, a role `o`, of which there is none yet, bytes `b`, which
-// come to the front of `bytes`, or the line's end `e`.
-pub fn spell(kind: u8, word: &[u8], bytes: &mut [u8]) -> Spelling {
+// What a word spells that should be of a kind. Bytes come to the front of `bytes`.
+pub fn spell(kind: usize, word: &[u8], bytes: &mut [u8; BYTES_SIZE]) -> Spelling {
     if is_none(kind, word) {
-        return Spelling::Value(0);
+        return spelt(0, NONE);
     }
     if word.len() == 0 {
-        return Spelling::Bad(MISSING);
+        return spelt(0, if kind == END { NONE } else { MISSING });
     }
     match kind {
-        b'n' => number(word, usize::MAX),
-        b'l' => number(word, LENT_SIZE),
-        b'b' => put_bytes(bytes, word),
-        b'o' => Spelling::Bad(NO_ROLE),
-        _ => Spelling::Bad(EXTRA),
+        ROOM => number(word, LENT_SIZE),
+        NUMBER => number(word, usize::MAX),
+        BYTES => put_bytes(bytes, word),
+        ROLE => spelt(0, NO_ROLE),
+        _ => spelt(0, EXTRA),
     }
 }

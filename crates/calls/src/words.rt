@@ -1,11 +1,11 @@
 // Words of a text, with marks between them.
+use text::input::find;
 use text::input::part;
-use text::pieces::find;
 
-// Word n of a text, counted from 0; no byte where there are fewer.
+// Word n of a text, counted from 1; no byte where there are fewer.
 pub fn word(text: &[u8], mark: u8, n: usize) -> &[u8] {
-    let mut from = find(text, 0, mark, false);
-    let mut end = find(text, from, mark, true);
+    let mut from = 0;
+    let mut end = 0;
     let mut left = n;
     while 0 < left {
         from = find(text, end, mark, false);

@@ -1,33 +1,27 @@
 // The settings image from its file.
 use libc::ENOENT;
-use text::input::Source;
-use text::input::read_more;
+use text::input::BLOCK_SIZE;
+use text::output::TEXT_SIZE;
+use text::pieces::next_piece;
+use text::pieces::no_piece;
+use text::pieces::tell_failure;
 
-// Fills a buffer's front from a file and answers how many bytes it has of it; none where the first read fails.
-fn read_file(file: i32, image: &mut [u8]) -> usize {
-    let first = read_more(file, b"bank.set", image, 0, 0);
-    let source = first.source;
-    let Source::Open = source else {
-        return 0;
-    };
-    let filled = first.filled;
-    if image.len() < filled {
-        return 0;
-    }
-    filled + io::read_full(file, &mut image[filled..])
-}
+// Bytes of the file that are read. An image has at most 842. Of a longer file these suffice: whatever refuses it stands among the first
+// 843, as the first byte left over does, which is the place of refusal 6.
+const IMAGE_SIZE: usize = 1024;
 
-// Puts the front of bank.set into a buffer and answers its length. A missing file counts as no bytes. So does one that can't be
+// Puts the front of a file into a block and answers its length. A missing file counts as no bytes. So does one that can't be
 // opened or read; standard error then has the reason.
-pub fn read_image(image: &mut [u8]) -> usize {
-    let file = os::open_read(b"bank.set");
+pub fn read_image(name: &[u8], block: &mut [u8; BLOCK_SIZE], text: &[u8; TEXT_SIZE]) -> usize {
+    let file = os::open_read(name);
     if file < 0 {
         if os::errno() != ENOENT {
-            os::fail(b"bank.set");
+            os::fail(name);
         }
         return 0;
     }
-    let length = read_file(file, image);
+    let image = next_piece(no_piece(file, IMAGE_SIZE), block, text);
+    tell_failure(image, name);
     libc::close(file);
-    length
+    image.end
 }

@@ -5,41 +5,42 @@ mod run;
 mod show;
 
 use crate::bank_file::read_image;
-use crate::run::run;
-use crate::show::add_refused;
+use crate::run::run_input;
+use crate::show::add_refused_line;
 use bank::load::load;
 use layout::sizes::MARKS_WORDS;
 use layout::sizes::SETTINGS_WORDS;
 use layout::sizes::STATES_WORDS;
 use settings::reply::Reply;
+use text::input::BLOCK_SIZE;
 use text::input::part;
+use text::output::TEXT_SIZE;
 use text::output::flush;
 
-// Prints the refusal of settings.
-fn print_refused(reply: Reply) {
-    match reply {
-        Reply::Accepted => {}
-        Reply::Refused(refusal) => {
-            let mut text = [0u8; 128];
-            let waiting = add_refused(&mut text, 0, refusal);
-            flush(&text, waiting);
-        }
-    }
+// Makes a bank of the settings at a block's front.
+fn load_bank(
+    settings: &mut [u64; SETTINGS_WORDS],
+    states: &mut [u64; STATES_WORDS],
+    marks: &mut [u64; MARKS_WORDS],
+    block: &[u8; BLOCK_SIZE],
+    length: usize,
+) -> Reply {
+    let image = part(block, 0, length);
+    load(image, settings, states, marks)
 }
 
-// An image has at most 842 bytes. Of a longer file the first 1,024 suffice: whatever refuses it stands among the first 843, as
-// the first byte left over does, which is the place of refusal 6.
 fn main() {
-    let mut buffer = [0u8; 1024];
-    let length = read_image(&mut buffer);
+    let mut block = [0u8; BLOCK_SIZE];
+    let mut text = [0u8; TEXT_SIZE];
     let mut settings = [0u64; SETTINGS_WORDS];
     let mut states = [0u64; STATES_WORDS];
     let mut marks = [0u64; MARKS_WORDS];
-    let image = part(&buffer, 0, length);
-    let reply = load(image, &mut settings, &mut states, &mut marks);
-    let Reply::Accepted = reply else {
-        print_refused(reply);
-        return;
-    };
-    run(&settings, &mut states, &mut marks);
+    let length = read_image(b"bank.set", &mut block, &text);
+    match load_bank(&mut settings, &mut states, &mut marks, &block, length) {
+        Reply::Accepted => run_input(&settings, &mut states, &mut marks, &mut block, &mut text),
+        Reply::Refused(refusal) => {
+            let waiting = add_refused_line(&mut text, 0, refusal);
+            flush(&text, waiting);
+        }
+    }
 }

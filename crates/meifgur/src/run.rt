@@ -6,11 +6,14 @@ use layout::sizes::DIGITAL_COUNT;
 use layout::sizes::MARKS_WORDS;
 use layout::sizes::SETTINGS_WORDS;
 use layout::sizes::STATES_WORDS;
+use libc::STDIN_FILENO;
 use scan::scan::scan;
 use scan_record::check::record_length;
-use text::input::Source;
+use text::input::BLOCK_SIZE;
 use text::input::part;
-use text::output::flush;
+use text::output::TEXT_SIZE;
+use text::pieces::Piece;
+use text::pieces::finish;
 use text::pieces::goes_on;
 use text::pieces::next_piece;
 use text::pieces::no_piece;
@@ -32,7 +35,7 @@ fn run_record(
     states: &mut [u64; STATES_WORDS],
     marks: &mut [u64; MARKS_WORDS],
     bytes: &[u8],
-    text: &mut [u8],
+    text: &mut [u8; TEXT_SIZE],
     waiting: usize,
 ) -> usize {
     let mut events = [0u8; EVENTS_ROOM];
@@ -40,41 +43,49 @@ fn run_record(
     add_answer(text, waiting, answer, &events)
 }
 
-// Ends a drive: adds how each condition stands, and writes what waits. A read that failed is no end, and nothing is added then.
-fn finish(
-    settings: &[u64; SETTINGS_WORDS],
-    states: &[u64; STATES_WORDS],
-    marks: &[u64; MARKS_WORDS],
-    source: Source,
-    text: &mut [u8],
-    waiting: usize,
-) {
-    let Source::Ended = source else {
-        return;
-    };
-    let digital = settings[DIGITAL_COUNT] as usize;
-    let at = add_bank(text, waiting, settings, states, marks, digital);
-    flush(text, at);
-}
-
-// Runs all of standard input. As in `next_piece` the loop counts its turns down.
-pub fn run(
+// Runs the record at hand and answers the next one.
+fn run_piece(
     settings: &[u64; SETTINGS_WORDS],
     states: &mut [u64; STATES_WORDS],
     marks: &mut [u64; MARKS_WORDS],
+    block: &mut [u8; BLOCK_SIZE],
+    text: &mut [u8; TEXT_SIZE],
+    piece: Piece,
+) -> Piece {
+    let bytes = part(block, piece.from, piece.end);
+    let mut done = piece;
+    done.waiting = run_record(settings, states, marks, bytes, text, piece.waiting);
+    next_piece(done, block, text)
+}
+
+// Ends a drive: adds how each condition stands, and writes what waits. A read that failed is no end, and nothing is added then.
+fn end_drive(
+    settings: &[u64; SETTINGS_WORDS],
+    states: &[u64; STATES_WORDS],
+    marks: &[u64; MARKS_WORDS],
+    text: &mut [u8; TEXT_SIZE],
+    piece: Piece,
 ) {
-    let size = size_for(settings);
-    let mut block = io::large_buffer();
-    let mut text = io::large_buffer();
-    let mut waiting = 0;
-    let mut piece = next_piece(no_piece(), size, &mut block, &text, &mut waiting);
+    let mut last = piece;
+    if piece.got == 0 {
+        last.waiting = add_bank(text, piece.waiting, settings, states, marks);
+    }
+    finish(last, text);
+}
+
+// Runs all of standard input. As in `next_piece` the loop counts its turns down.
+pub fn run_input(
+    settings: &[u64; SETTINGS_WORDS],
+    states: &mut [u64; STATES_WORDS],
+    marks: &mut [u64; MARKS_WORDS],
+    block: &mut [u8; BLOCK_SIZE],
+    text: &mut [u8; TEXT_SIZE],
+) {
+    let mut piece = next_piece(no_piece(STDIN_FILENO, size_for(settings)), block, text);
     let mut turns = u64::MAX;
-    while 0 < turns && goes_on(piece, waiting) {
-        let bytes = part(&block, piece.from, piece.end);
-        waiting = run_record(settings, states, marks, bytes, &mut text, waiting);
-        piece = next_piece(piece, size, &mut block, &text, &mut waiting);
+    while 0 < turns && goes_on(piece) {
+        piece = run_piece(settings, states, marks, block, text, piece);
         turns -= 1;
     }
-    let source = piece.source;
-    finish(settings, states, marks, source, &mut text, waiting);
+    end_drive(settings, states, marks, text, piece);
 }

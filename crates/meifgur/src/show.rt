@@ -1,11 +1,19 @@
 // What a bank's calls answer, as lines. Each function adds to what waits and answers how much waits then.
 ghost use Prim.Native.Nat.{_≤_};
 ghost use lib.ListN.{length};
+use layout::sizes::DIGITAL_COUNT;
+use layout::sizes::MARKS_WORDS;
+use layout::sizes::SETTINGS_WORDS;
+use layout::sizes::STATES_WORDS;
+use report::report::AlarmReport;
 use report::report::report;
-use report::status::Status;
 use scan::answer::Answer;
 use settings::reply::Refusal;
 use settings::reply::Reply;
+use text::answers::add_conditions;
+use text::answers::add_refused;
+use text::output::TEXT_SIZE;
+use text::output::add_byte;
 use text::show::add_form;
 use wire::number::get_u16;
 use wire::number::get_u64;
@@ -18,7 +26,7 @@ fn wide(byte: u8) -> u64 {
 }
 
 // Adds the line of an event record: time, alarm, condition, kind, severity, suppressed.
-fn add_event(text: &mut [u8], waiting: usize, event: &[u8]) -> usize
+fn add_event(text: &mut [u8; TEXT_SIZE], waiting: usize, event: &[u8]) -> usize
     requires { ⌜ 16 ≤ length (now event) ⌝ }
 {
     let numbers = [
@@ -29,11 +37,11 @@ fn add_event(text: &mut [u8], waiting: usize, event: &[u8]) -> usize
         get_u16(event, 4) as u64,
         wide(event[3]),
     ];
-    add_form(text, waiting, b"% % % % % %\n", &numbers, &[])
+    add_form(text, waiting, b"A B C D E F\n", &numbers)
 }
 
 // Adds the lines of the first `number` event records of a buffer.
-fn add_events(text: &mut [u8], waiting: usize, events: &[u8], number: usize) -> usize {
+fn add_events(text: &mut [u8; TEXT_SIZE], waiting: usize, events: &[u8], number: usize) -> usize {
     let mut added = waiting;
     let mut at = 0;
     let mut left = number;
@@ -46,75 +54,64 @@ fn add_events(text: &mut [u8], waiting: usize, events: &[u8], number: usize) -> 
 }
 
 // Adds the line of a refusal.
-pub fn add_refused(text: &mut [u8], waiting: usize, refusal: Refusal) -> usize {
-    add_form(
-        text,
-        waiting,
-        b"refused % %\n",
-        &[refusal.number as u64, refusal.place as u64],
-        &[],
-    )
+pub fn add_refused_line(text: &mut [u8; TEXT_SIZE], waiting: usize, refusal: Refusal) -> usize {
+    let at = add_refused(text, waiting, refusal);
+    add_byte(text, at, b'\n')
 }
 
 // Adds the events of a scan, which stand in `events`, or its refusal.
-pub fn add_answer(text: &mut [u8], waiting: usize, answer: Answer, events: &[u8]) -> usize {
+pub fn add_answer(
+    text: &mut [u8; TEXT_SIZE],
+    waiting: usize,
+    answer: Answer,
+    events: &[u8],
+) -> usize {
     match answer {
         Answer::Events(number) => add_events(text, waiting, events, number),
-        Answer::Refused(refusal) => add_refused(text, waiting, refusal),
+        Answer::Refused(refusal) => add_refused_line(text, waiting, refusal),
     }
 }
 
-// Adds the line of a condition at the end: alarm, condition, in alarm, unacknowledged, count.
-fn add_status(text: &mut [u8], waiting: usize, alarm: usize, condition: usize, s: Status) -> usize {
-    let numbers = [
-        alarm as u64,
-        condition as u64,
-        s.alarm as u64,
-        !s.acked as u64,
-        s.count,
-    ];
-    add_form(text, waiting, b"end % % % % %\n", &numbers, &[])
+// Whether there is an alarm that a report is of.
+fn is_found(found: AlarmReport) -> bool {
+    let reply = found.reply;
+    match reply {
+        Reply::Accepted => true,
+        _ => false,
+    }
 }
 
-// Adds the one condition of a digital alarm, or the six of an analog one.
-fn add_conditions(
-    text: &mut [u8],
+// Adds the lines of an alarm's conditions at the end: alarm, condition, in alarm, unacknowledged, count. No lines where no alarm has the
+// number.
+fn add_alarm(
+    text: &mut [u8; TEXT_SIZE],
     waiting: usize,
-    alarm: usize,
-    is_digital: bool,
-    conditions: [Status; 6],
+    settings: &[u64; SETTINGS_WORDS],
+    states: &[u64; STATES_WORDS],
+    marks: &[u64; MARKS_WORDS],
+    n: usize,
 ) -> usize {
-    if is_digital {
-        return add_status(text, waiting, alarm, 0, conditions[0]);
+    let found = report(settings, states, marks, n);
+    if !is_found(found) {
+        return waiting;
     }
-    let mut at = waiting;
-    let mut c = 0;
-    while c < 6 {
-        at = add_status(text, at, alarm, c + 1, conditions[c]);
-        c += 1;
-    }
-    at
+    let is_digital = n <= settings[DIGITAL_COUNT] as usize;
+    let conditions = found.conditions;
+    add_conditions(text, waiting, b"end I A B D E\n", n, is_digital, conditions)
 }
 
-// Adds all conditions of a bank with so many digital alarms, alarm by alarm up to the first number that no alarm has.
+// Adds all conditions of a bank, alarm by alarm.
 pub fn add_bank(
-    text: &mut [u8],
+    text: &mut [u8; TEXT_SIZE],
     waiting: usize,
-    settings: &[u64],
-    states: &[u64],
-    marks: &[u64],
-    digital: usize,
+    settings: &[u64; SETTINGS_WORDS],
+    states: &[u64; STATES_WORDS],
+    marks: &[u64; MARKS_WORDS],
 ) -> usize {
     let mut at = waiting;
     let mut n = 1;
     while n <= 24 {
-        let found = report(settings, states, marks, n);
-        let reply = found.reply;
-        let Reply::Accepted = reply else {
-            return at;
-        };
-        let conditions = found.conditions;
-        at = add_conditions(text, at, n, n <= digital, conditions);
+        at = add_alarm(text, at, settings, states, marks, n);
         n += 1;
     }
     at

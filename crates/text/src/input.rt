@@ -1,24 +1,7 @@
-// Input in blocks.
+// Bytes of an input that is read in blocks.
 
-// Whether an input may have more.
-pub enum Source {
-    Open,
-    Ended,
-    Failed,
-}
-
-pub fn is_open(source: Source) -> bool {
-    match source {
-        Source::Open => true,
-        _ => false,
-    }
-}
-
-// How many bytes at a block's front were read and not used, and what became of the input.
-pub struct Input {
-    pub filled: usize,
-    pub source: Source,
-}
+// Bytes of a block.
+pub const BLOCK_SIZE: usize = 65536;
 
 // The bytes from `from` up to `end`; none where they have no such part.
 pub fn part(bytes: &[u8], from: usize, end: usize) -> &[u8] {
@@ -31,12 +14,24 @@ pub fn part(bytes: &[u8], from: usize, end: usize) -> &[u8] {
     &bytes[from..end]
 }
 
+// Where from `from` on the first byte stands that is the mark, or the first that is not; no place of the text where there is none.
+pub fn find(text: &[u8], from: usize, mark: u8, is_mark: bool) -> usize {
+    let mut i = from;
+    while i < text.len() {
+        if (text[i] == mark) == is_mark {
+            return i;
+        }
+        i += 1;
+    }
+    i
+}
+
 // Moves what was not used to the block's front and answers how many bytes it is.
-fn keep_rest(block: &mut [u8], from: usize, filled: usize) -> usize {
+pub fn keep_rest(block: &mut [u8; BLOCK_SIZE], from: usize, filled: usize) -> usize {
     let mut kept = 0;
     let mut at = from;
     while at < filled {
-        if block.len() <= at {
+        if BLOCK_SIZE <= at {
             return kept;
         }
         block[kept] = block[at];
@@ -44,28 +39,4 @@ fn keep_rest(block: &mut [u8], from: usize, filled: usize) -> usize {
         at += 1;
     }
     kept
-}
-
-// Moves what stands in a block from `from` up to `filled` to its front and reads once behind it. A block that is full takes no more,
-// as if the input had ended. Standard error has the reason of a failure.
-pub fn read_more(file: i32, name: &[u8], block: &mut [u8], from: usize, filled: usize) -> Input {
-    let kept = keep_rest(block, from, filled);
-    let mut more = kept;
-    let mut source = Source::Ended;
-    if kept < block.len() {
-        let room = &mut block[kept..];
-        let got = libc::read(file, room);
-        if got < 0 {
-            os::fail(name);
-            source = Source::Failed;
-        }
-        if 0 < got {
-            more = kept + io::count(got, room);
-            source = Source::Open;
-        }
-    }
-    Input {
-        filled: more,
-        source,
-    }
 }

@@ -1,5 +1,6 @@
-// What the programs read and write, without a bank: input in blocks and pieces of it, text that waits for output, numbers and bytes
-// as text.
+// What the programs read and write: input in blocks and pieces of it, text that waits for output, numbers and bytes as text, and what
+// both print of a bank's answers.
+pub mod answers;
 pub mod input;
 pub mod output;
 pub mod pieces;

@@ -1,50 +1,46 @@
-// Pieces of standard input, which is read in blocks: lines, or records of one size.
-use crate::input::Source;
-use crate::input::is_open;
-use crate::input::read_more;
+// Pieces of an input that is read in blocks: lines, or records of one size.
+use crate::input::BLOCK_SIZE;
+use crate::input::find;
+use crate::input::keep_rest;
 use crate::output::FAILED;
+use crate::output::TEXT_SIZE;
 use crate::output::flush;
-use libc::STDIN_FILENO;
 
 // The longest piece. Of a longer one what was read is dropped: it is cut.
 pub const PIECE_SIZE: usize = 20000;
 
-// The piece at hand stands in a block from `from` up to `end`, the next one begins at `next`; what was read ends at `filled`.
+// The piece at hand of a file in records of `size` bytes, or in lines, where that is 0. It stands in a block from `from` up to `end`, the
+// next one begins at `next`, and what was read ends at `filled`. The last read answered `got`: how many bytes, 0 at the input's end, and
+// less where it failed. Text is written before more is read, so how much text waits stands beside it.
 pub struct Piece {
+    pub file: i32,
+    pub size: usize,
     pub from: usize,
     pub end: usize,
     pub next: usize,
     pub filled: usize,
     pub is_cut: bool,
-    pub source: Source,
+    pub got: isize,
+    pub waiting: usize,
 }
 
 // Before the first piece.
-pub fn no_piece() -> Piece {
+pub fn no_piece(file: i32, size: usize) -> Piece {
     Piece {
+        file,
+        size,
         from: 0,
         end: 0,
         next: 0,
         filled: 0,
         is_cut: false,
-        source: Source::Open,
+        got: 1,
+        waiting: 0,
     }
 }
 
-// Where from `from` on the first byte stands that is the mark, or the first that is not; no place of the text where there is none.
-pub fn find(text: &[u8], from: usize, mark: u8, is_mark: bool) -> usize {
-    let mut i = from;
-    while i < text.len() {
-        if (text[i] == mark) == is_mark {
-            return i;
-        }
-        i += 1;
-    }
-    i
-}
-
-// Where a piece that begins at `from` ends: before its line end or, of a record, after `size` bytes, which a line has 0 of.
-fn end_of(block: &[u8], from: usize, size: usize) -> usize {
+// Where a piece that begins at `from` ends: before its line end or, of a record, after `size` bytes.
+fn end_of(block: &[u8; BLOCK_SIZE], from: usize, size: usize) -> usize {
     if size == 0 {
         return find(block, from, b'\n', true);
     }
@@ -65,17 +61,19 @@ fn next_of(end: usize, size: usize) -> usize {
     end
 }
 
-// The piece behind the one at hand.
-fn behind(piece: Piece, size: usize, block: &[u8]) -> Piece {
-    let source = piece.source;
-    let end = end_of(block, piece.next, size);
+// The piece that begins at `from`.
+fn piece_at(piece: Piece, from: usize, is_cut: bool, block: &[u8; BLOCK_SIZE]) -> Piece {
+    let end = end_of(block, from, piece.size);
     Piece {
-        from: piece.next,
+        file: piece.file,
+        size: piece.size,
+        from,
         end,
-        next: next_of(end, size),
+        next: next_of(end, piece.size),
         filled: piece.filled,
-        is_cut: false,
-        source,
+        is_cut,
+        got: piece.got,
+        waiting: piece.waiting,
     }
 }
 
@@ -90,80 +88,78 @@ fn kept_from(piece: Piece) -> usize {
     piece.filled
 }
 
-// The piece at hand after one more read.
-fn read_on(piece: Piece, size: usize, block: &mut [u8]) -> Piece {
-    let from = kept_from(piece);
-    let input = read_more(STDIN_FILENO, b"standard input", block, from, piece.filled);
-    let source = input.source;
-    let end = end_of(block, 0, size);
-    Piece {
-        from: 0,
-        end,
-        next: next_of(end, size),
-        filled: input.filled,
-        is_cut: piece.is_cut | (piece.from < from),
-        source,
+// Reads once behind what was kept of a block. A block that is full takes no more, as if the input had ended.
+fn read_more(piece: Piece, block: &mut [u8], kept: usize) -> Piece {
+    let mut more = piece;
+    more.filled = kept;
+    more.got = 0;
+    if kept < block.len() {
+        let room = &mut block[kept..];
+        let got = libc::read(piece.file, room);
+        more.filled = kept + io::count(got, room);
+        more.got = got;
     }
+    more
+}
+
+// The piece at hand after one more read.
+fn read_on(piece: Piece, block: &mut [u8; BLOCK_SIZE]) -> Piece {
+    let from = kept_from(piece);
+    let kept = keep_rest(block, from, piece.filled);
+    let more = read_more(piece, block, kept);
+    piece_at(more, 0, piece.is_cut | (piece.from < from), block)
 }
 
 // Whether a piece's end was not read, and may be. After a write that failed nothing more is read.
-fn is_short(piece: Piece, waiting: usize) -> bool {
-    let source = piece.source;
-    (piece.filled < piece.next) & is_open(source) & (waiting < FAILED)
+fn is_short(piece: Piece) -> bool {
+    (piece.filled < piece.next) & (0 < piece.got) & (piece.waiting < FAILED)
 }
 
-// A piece whose end was not read: the rest of the input. What a failed read leaves is none.
-fn rest_of(piece: Piece) -> Piece {
-    let source = piece.source;
-    let mut end = piece.filled;
-    let mut is_cut = piece.is_cut;
-    if let Source::Failed = source {
-        end = piece.from;
-        is_cut = false;
-    }
-    Piece {
-        from: piece.from,
-        end,
-        next: end,
-        filled: piece.filled,
-        is_cut,
-        source,
-    }
-}
-
-// How much text waits before a piece is read: none where its end was not read yet, since reading may take long.
-fn settled(piece: Piece, text: &[u8], waiting: usize) -> usize {
-    if is_short(piece, waiting) {
-        return flush(text, waiting);
-    }
-    waiting
-}
-
-// The next piece: a record of `size` bytes, or, where that is 0, a line; or what is left of the input. Before anything is read the
-// text so far is written. A proved loop has to end, and nothing says that an input does, so it counts its turns down from a number
-// that no input uses up.
-pub fn next_piece(
-    piece: Piece,
-    size: usize,
-    block: &mut [u8],
-    text: &[u8],
-    waiting: &mut usize,
-) -> Piece {
-    let mut next = behind(piece, size, block);
-    let left = settled(next, text, *waiting);
-    *waiting = left;
-    let mut turns = u64::MAX;
-    while 0 < turns && is_short(next, left) {
-        next = read_on(next, size, block);
-        turns -= 1;
-    }
-    if next.filled < next.next {
-        return rest_of(next);
+// Writes the text so far before a piece whose end was not read yet, since reading may take long.
+fn settled(piece: Piece, text: &[u8; TEXT_SIZE]) -> Piece {
+    let mut next = piece;
+    if is_short(piece) {
+        next.waiting = flush(text, piece.waiting);
     }
     next
 }
 
-// Whether there is a piece, or was one, and what it brings can be written.
-pub fn goes_on(piece: Piece, waiting: usize) -> bool {
-    ((piece.from < piece.next) | piece.is_cut) & (waiting < FAILED)
+// A piece whose end was not read is the rest of the input.
+fn rest_of(piece: Piece) -> Piece {
+    let mut rest = piece;
+    if piece.filled < piece.next {
+        rest.end = piece.filled;
+        rest.next = piece.filled;
+    }
+    rest
+}
+
+// The next piece, or what is left of the input. Before anything is read the text so far is written. A proved loop has to end, and
+// nothing says that an input does, so it counts its turns down from a number that no input uses up.
+pub fn next_piece(piece: Piece, block: &mut [u8; BLOCK_SIZE], text: &[u8; TEXT_SIZE]) -> Piece {
+    let mut next = settled(piece_at(piece, piece.next, false, block), text);
+    let mut turns = u64::MAX;
+    while 0 < turns && is_short(next) {
+        next = read_on(next, block);
+        turns -= 1;
+    }
+    rest_of(next)
+}
+
+// Whether there is a piece, or was one, and what it brings can be written. What a failed read leaves is none.
+pub fn goes_on(piece: Piece) -> bool {
+    ((piece.from < piece.next) | piece.is_cut) & (0 <= piece.got) & (piece.waiting < FAILED)
+}
+
+// Tells standard error the reason where the last read failed.
+pub fn tell_failure(piece: Piece, name: &[u8]) {
+    if piece.got < 0 {
+        os::fail(name);
+    }
+}
+
+// Ends a program's input: standard error has the reason where it failed, and what waits is written.
+pub fn finish(piece: Piece, text: &[u8; TEXT_SIZE]) {
+    tell_failure(piece, b"standard input");
+    flush(text, piece.waiting);
 }

@@ -1,15 +1,13 @@
--- `calls::main` is safe: the buffers keep their lengths. The measure is the turns left. Assumes nothing.
+-- `calls::main` is safe. The measure is the turns left. Assumes nothing.
 use borrow.Author.Needs.{needs}
-use mathlib.Core.Path.{_≡_}
-use lib.ListN.{length}
 use Rattle.calls.proofs.main.Statement.{statement}
 use Rattle.calls.proofs.main.Tie as tie
 
 abbrev Inv-loop : tie.InvT-loop
-Inv-loop block₀ text₀ settings₀ states₀ marks₀ waiting₀ piece₀ turns₀ block text settings states marks waiting piece turns = (65536 ≡ length block) × (65536 ≡ length text)
+Inv-loop block₀ text₀ settings₀ states₀ marks₀ piece₀ turns₀ block text settings states marks piece turns = Unit {0}
 
 abbrev μ-loop : tie.MeasureT-loop
-μ-loop block₀ text₀ settings₀ states₀ marks₀ waiting₀ piece₀ turns₀ block text settings states marks waiting piece turns = turns
+μ-loop block₀ text₀ settings₀ states₀ marks₀ piece₀ turns₀ block text settings states marks piece turns = turns
 
 pub main-spec : {M : Type 1} → statement M
 main-spec =
@@ -17,29 +15,13 @@ main-spec =
     (tie.spec
     Inv-loop
     μ-loop
-    (λ c κs. search needs)
-    (λ c κs. search needs)
-    (λ c. search needs)
-    (λ c. search needs)
-    (λ c. search needs)
     (λ c. search needs)
     (λ c κs. search needs)
     (λ c κs. search needs)
-    (λ c. search needs)
-    (λ c. search needs)
     (λ c κs. search needs)
     (λ c. search needs)
     (λ c κs. search needs)
-    (λ c. search needs)
     (λ c κs. search needs)
-    (λ c. search needs)
-    (λ c κs. search needs)
-    (λ c. search needs)
-    (λ c κs. search needs)
-    (λ c. search needs)
-    (λ c. search needs)
-    (λ c κs. search needs)
-    (λ c. search needs)
     (λ c. search needs)
     (λ c. search needs)
     (λ c. search needs)

@@ -1,6 +1,5 @@
 -- `calls::call::name_of` is safe. The measure is the names left. Assumes nothing.
 use borrow.Author.Needs.{needs}
-use Prim.Native.Nat.{_-_}
 use Rattle.calls.proofs.call.name_of.Statement.{statement}
 use Rattle.calls.proofs.call.name_of.Tie as tie
 
@@ -8,7 +7,7 @@ abbrev Inv-loop : tie.InvT-loop
 Inv-loop line name n₀ t4 n = Unit {0}
 
 abbrev μ-loop : tie.MeasureT-loop
-μ-loop line name n₀ t4 n = 4 - n
+μ-loop line name n₀ t4 n = n
 
 pub name-of-spec : {M : Type 1} → statement M
 name-of-spec =

@@ -1,16 +1,15 @@
--- `calls::spelling::put_bytes` is safe: each pair stands in the word, and each byte has its place. The measure is the room left. Assumes nothing.
+-- `calls::spelling::put_bytes` is safe: the loop tests the index itself. The measure is the characters left. Assumes nothing.
 use borrow.Author.Needs.{needs}
-use Prim.Native.Nat.{_≤_, _-_}
-use mathlib.Core.Path.{_≡_}
+use Prim.Native.Nat.{_-_}
 use lib.ListN.{length}
 use Rattle.calls.proofs.spelling.put_bytes.Statement.{statement}
 use Rattle.calls.proofs.spelling.put_bytes.Tie as tie
 
 abbrev Inv-loop : tie.InvT-loop
-Inv-loop bytes₀ word are-digits₀ at₀ i₀ bytes are-digits at i = (length bytes ≡ length bytes₀) × (i ≤ length word)
+Inv-loop bytes₀ word are-digits₀ i₀ bytes are-digits i = Unit {0}
 
 abbrev μ-loop : tie.MeasureT-loop
-μ-loop bytes₀ word are-digits₀ at₀ i₀ bytes are-digits at i = length word - i
+μ-loop bytes₀ word are-digits₀ i₀ bytes are-digits i = length word - i
 
 pub put-bytes-spec : {M : Type 1} → statement M
 put-bytes-spec =
@@ -20,12 +19,6 @@ put-bytes-spec =
     μ-loop
     (λ c. search needs)
     (λ c. search needs)
-    (λ c. search needs)
-    (λ c. search needs)
-    (λ c. search needs)
-    (λ c κs. search needs)
-    (λ c. search needs)
-    (λ c. search needs)
     (λ c κs. search needs)
     (λ c. search needs)
     (λ c. search needs)
@@ -33,8 +26,8 @@ put-bytes-spec =
     (λ c. search needs)
     (λ c. search needs)
     (λ c. search needs)
-    (λ c. (search needs, search needs))
     (λ c. search needs)
+    (λ c κs. search needs)
     (λ c. search needs)
-    (λ c. search needs)
+    (λ c κs. search needs)
     (λ c. search needs))

@@ -3,22 +3,15 @@ use borrow.Author.Needs.{needs}
 use borrow.Author.Tests.{leb-true}
 use native.Mathlib.Omega.{arith}
 use Prim.Native.Nat.{_≤_}
-use mathlib.Core.Path.{_≡_}
 use lib.ListN.{length}
 use Rattle.meifgur.proofs.show.add_events.Statement.{statement}
 use Rattle.meifgur.proofs.show.add_events.Tie as tie
 
 abbrev Inv-loop : tie.InvT-loop
-Inv-loop text₀ waiting events number added₀ at₀ left₀ text added at left = (at ≤ length events) × (length text ≡ length text₀)
+Inv-loop text₀ waiting events number added₀ at₀ left₀ text added at left = at ≤ length events
 
 abbrev μ-loop : tie.MeasureT-loop
 μ-loop text₀ waiting events number added₀ at₀ left₀ text added at left = left
-
-part-add-event-end : tie.Need-part-add-event-end Inv-loop μ-loop
-part-add-event-end c = omega (arith, leb-true)
-
-loop-again : tie.Need-loop-again Inv-loop μ-loop
-loop-again c = (omega (arith, leb-true), search needs)
 
 pub add-events-spec : {M : Type 1} → statement M
 add-events-spec =
@@ -31,13 +24,11 @@ add-events-spec =
     (λ c. search needs)
     (λ c. search needs)
     (λ c. search needs)
-    part-add-event-end
+    (λ c. omega (arith, leb-true))
     (λ c κs. search needs)
     (λ c. search needs)
     (λ c. search needs)
     (λ c. search needs)
-    loop-again
-    (λ c. search needs)
-    (λ c. search needs)
+    (λ c. omega (arith, leb-true))
     (λ c. search needs)
     (λ c. search needs))

@@ -1,13 +1,12 @@
 -- `text::output::add` is safe: the loop tests the index itself. The measure is the bytes left. Assumes nothing.
 use borrow.Author.Needs.{needs}
 use Prim.Native.Nat.{_-_}
-use mathlib.Core.Path.{_≡_}
 use lib.ListN.{length}
 use Rattle.text.proofs.output.add.Statement.{statement}
 use Rattle.text.proofs.output.add.Tie as tie
 
 abbrev Inv-loop : tie.InvT-loop
-Inv-loop text₀ waiting bytes at₀ i₀ text at i = length text ≡ length text₀
+Inv-loop text₀ waiting bytes at₀ i₀ text at i = Unit {0}
 
 abbrev μ-loop : tie.MeasureT-loop
 μ-loop text₀ waiting bytes at₀ i₀ text at i = length bytes - i
@@ -21,7 +20,6 @@ add-spec =
     (λ c. search needs)
     (λ c. search needs)
     (λ c κs. search needs)
-    (λ c. search needs)
     (λ c. search needs)
     (λ c. search needs)
     (λ c. search needs)

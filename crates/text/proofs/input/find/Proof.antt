@@ -1,9 +1,9 @@
--- `text::pieces::find` is safe: the loop tests the index itself. The measure is the bytes left. Assumes nothing.
+-- `text::input::find` is safe: the loop tests the index itself. The measure is the bytes left. Assumes nothing.
 use borrow.Author.Needs.{needs}
 use Prim.Native.Nat.{_-_}
 use lib.ListN.{length}
-use Rattle.text.proofs.pieces.find.Statement.{statement}
-use Rattle.text.proofs.pieces.find.Tie as tie
+use Rattle.text.proofs.input.find.Statement.{statement}
+use Rattle.text.proofs.input.find.Tie as tie
 
 abbrev Inv-loop : tie.InvT-loop
 Inv-loop text from mark is-mark i₀ i = Unit {0}

@@ -1,16 +1,14 @@
--- `calls::report_text::add_conditions` is safe: the index stays below 6. The measure is the conditions left. Assumes nothing.
+-- `text::answers::add_conditions` is safe: the index stays below 6. The measure is the conditions left. Assumes nothing.
 use borrow.Author.Needs.{needs}
 use Prim.Native.Nat.{_-_}
-use mathlib.Core.Path.{_≡_}
-use lib.ListN.{length}
-use Rattle.calls.proofs.report_text.add_conditions.Statement.{statement}
-use Rattle.calls.proofs.report_text.add_conditions.Tie as tie
+use Rattle.text.proofs.answers.add_conditions.Statement.{statement}
+use Rattle.text.proofs.answers.add_conditions.Tie as tie
 
 abbrev Inv-loop : tie.InvT-loop
-Inv-loop text₀ waiting is-digital conditions at₀ c₀ text at c = length text ≡ length text₀
+Inv-loop text₀ waiting form alarm is-digital conditions at₀ c₀ text at c = Unit {0}
 
 abbrev μ-loop : tie.MeasureT-loop
-μ-loop text₀ waiting is-digital conditions at₀ c₀ text at c = 6 - c
+μ-loop text₀ waiting form alarm is-digital conditions at₀ c₀ text at c = 6 - c
 
 pub add-conditions-spec : {M : Type 1} → statement M
 add-conditions-spec =
@@ -25,9 +23,7 @@ add-conditions-spec =
     (λ c. search needs)
     (λ c. search needs)
     (λ c. search needs)
-    (λ c. search needs)
     (λ c κs. search needs)
-    (λ c. search needs)
     (λ c. search needs)
     (λ c. search needs)
     (λ c. search needs)
