@@ -59,7 +59,8 @@ any-of false false false false false f = sym (or-false f)
 any-invalid : (s : Severities) (g : Limits) (period : ℕ) → anyInvalid s ≡ severityInv (Analog g s period)
 unfolding anyInvalid
 any-invalid s g period =
-    any-of (severityInvalid (s .hh)) (severityInvalid (s .h)) (severityInvalid (s .l)) (severityInvalid (s .ll)) (severityInvalid (s .rocpos)) (severityInvalid (s .rocneg))
+    any-of (severityInvalid (s .hh)) (severityInvalid (s .h)) (severityInvalid (s .l)) (severityInvalid (s .ll)) (severityInvalid (s .rocpos))
+    (severityInvalid (s .rocneg))
 
 module _ (a : Alarm) (s : State) (words : List ℕ) (at time : ℕ) (scans : List Scan) (t : time ≡ lastTime scans) where
   -- the bank's report, and what the scans say, of an alarm of this kind
@@ -125,7 +126,9 @@ module _ (a : Alarm) (s : State) (words : List ℕ) (at time : ℕ) (scans : Lis
         record {
           reply = Accepted;
           alarm = digital-whole i;
-          resettime = (v .stamped ∙ reset-stamp (λ past. digitalRun a past .previous) (λ past. ap (λ d. d .previous) (digital-run a (digital-required a k) past)) scans) i;
+          resettime =
+              (v .stamped ∙ reset-stamp (λ past. digitalRun a past .previous) (λ past. ap (λ d. d .previous) (digital-run a (digital-required a k) past)) scans)
+              i;
           conditions = digital-status i ∷ noStatus ∷ noStatus ∷ noStatus ∷ noStatus ∷ noStatus ∷ [];
         }
 
@@ -155,8 +158,11 @@ module _ (a : Alarm) (s : State) (words : List ℕ) (at time : ℕ) (scans : Lis
     analog-status : (c : Six) → getD (analogStatuses words at (s .flags)) (place c) noStatus ≡ statusOf a scans (ofSix c)
     analog-status c =
         status-analog words at s c
-        ∙ ap₂ (λ (h : AnalogHeld) (m : Marks). statusBy (h .cell c .alarm) (h .cell c .unacked) m) held-analog (v .marked c ∙ analog-report a (analog-required a k) scans c)
-        ∙ (λ i. statusBy (kept-alarm (facts a) (freesIn a) (clear a) scans (ofSix c) i) (kept-unacked (facts a) (freesIn a) (clear a) scans (ofSix c) i) (marksIn a (ofSix c) scans))
+        ∙ ap₂ (λ (h : AnalogHeld) (m : Marks). statusBy (h .cell c .alarm) (h .cell c .unacked) m) held-analog
+        (v .marked c ∙ analog-report a (analog-required a k) scans c)
+        ∙ (λ i.
+        statusBy (kept-alarm (facts a) (freesIn a) (clear a) scans (ofSix c) i) (kept-unacked (facts a) (freesIn a) (clear a) scans (ofSix c) i)
+        (marksIn a (ofSix c) scans))
 
     analog-said : given (Analog g severities period) ≡ said (Analog g severities period)
     unfolding analogStatuses
@@ -165,7 +171,9 @@ module _ (a : Alarm) (s : State) (words : List ℕ) (at time : ℕ) (scans : Lis
         record {
           reply = Accepted;
           alarm = analog-whole i;
-          resettime = (v .stamped ∙ reset-stamp (λ past. analogRun a past .previous) (λ past. ap (λ h. h .previous) (analog-run a (analog-required a k) past)) scans) i;
+          resettime =
+              (v .stamped ∙ reset-stamp (λ past. analogRun a past .previous) (λ past. ap (λ h. h .previous) (analog-run a (analog-required a k) past)) scans)
+              i;
           conditions = analog-status HH i ∷ analog-status H i ∷ analog-status L i ∷ analog-status LL i ∷ analog-status ROCPos i ∷ analog-status ROCNeg i ∷ [];
         }
 
