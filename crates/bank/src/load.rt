@@ -34,8 +34,10 @@ fn load_blocks(image: &[u8], settings: &mut [u64], states: &mut [u64], marks: &m
 // Writes the bank of a settings image, before its first scan; of a refused image, a bank without alarms.
 pub fn load(image: &[u8], settings: &mut [u64], states: &mut [u64], marks: &mut [u64]) -> Reply
     ensures { λ r. ⌜ r ≡ loadReply (wordsIn (now (settings .entry)) (now (states .entry)) (now (marks .entry))) (now (image .entry)) ⌝ }
-    ensures { λ _. ⌜ now (settings .exit) ≡ loadWords (wordsIn (now (settings .entry)) (now (states .entry)) (now (marks .entry))) (now (image .entry)) .settings ⌝ }
-    ensures { λ _. ⌜ now (states .exit) ≡ loadWords (wordsIn (now (settings .entry)) (now (states .entry)) (now (marks .entry))) (now (image .entry)) .states ⌝ }
+    ensures { λ _. ⌜ now (settings .exit) ≡ loadWords (wordsIn (now (settings .entry)) (now (states .entry)) (now (marks .entry)))
+        (now (image .entry)) .settings ⌝ }
+    ensures { λ _. ⌜ now (states .exit) ≡ loadWords (wordsIn (now (settings .entry)) (now (states .entry)) (now (marks .entry)))
+        (now (image .entry)) .states ⌝ }
     ensures { λ _. ⌜ now (marks .exit) ≡ loadWords (wordsIn (now (settings .entry)) (now (states .entry)) (now (marks .entry))) (now (image .entry)) .marks ⌝ }
 {
     if settings.len() != SETTINGS_WORDS {

@@ -163,17 +163,22 @@ module _ (image : List ℕ) (past : List (List ℕ)) (b : Bank) (rec : List ℕ)
   pub digital-of : (p : ℕ) → p < digital → (severity : ℕ) × (alarm p .kind ≡ Digital severity)
   digital-of p h = digital-kind (alarm p .kind) (alarm p .flags) (alarm p .duration) (v .sound .digital-sound p h)
 
-  pub analog-of : (p : ℕ) → digital ≤ p → p < alarmsOf b → (g : Limits) × (severities : Severities) × (period : ℕ) × (alarm p .kind ≡ Analog g severities period)
+  pub analog-of : (p : ℕ) → digital ≤ p → p < alarmsOf b
+      → (g : Limits) × (severities : Severities) × (period : ℕ) × (alarm p .kind ≡ Analog g severities period)
   analog-of p l h = analog-kind (alarm p .kind) (alarm p .flags) (alarm p .duration) (v .sound .analog-sound p l h)
 
   parts : (p : ℕ) → p < alarmsOf b → PartRead rec digital p
-  parts p h = all-read rec digital (alarmsOf b) 0 8 (omega arith) (accepted-says digital (b .settings .analog) (b .time) rec ok .2) p (omega arith) (omega arith)
+  parts p h =
+      all-read rec digital (alarmsOf b) 0 8 (omega arith) (accepted-says digital (b .settings .analog) (b .time) rec ok .2) p (omega arith) (omega arith)
 
-  stepped-is : (p : ℕ) → p < alarmsOf b → stepAt rec digital (b .settings .alarms) (b .states) (timeOf rec) p ≡ stepOf (alarm p) (stateAt b p) (seen p .reading) (seen p .word) (seen p .time)
+  stepped-is : (p : ℕ) → p < alarmsOf b
+      → stepAt rec digital (b .settings .alarms) (b .states) (timeOf rec) p ≡ stepOf (alarm p) (stateAt b p) (seen p .reading) (seen p .word) (seen p .time)
   unfolding stepPart
   stepped-is p h = ap (λ (e : Entry). stepEntry e (alarm p) (stateAt b p) (timeOf rec)) (parts p h)
 
-  pub digital-stepped : (p : ℕ) → p < digital → stepAt rec digital (b .settings .alarms) (b .states) (timeOf rec) p ≡ digitalStep (alarm p) (stateAt b p) (seen p .reading) (seen p .word) (seen p .time)
+  pub digital-stepped : (p : ℕ) → p < digital
+      → stepAt rec digital (b .settings .alarms) (b .states) (timeOf rec) p
+      ≡ digitalStep (alarm p) (stateAt b p) (seen p .reading) (seen p .word) (seen p .time)
   unfolding stepKind
   digital-stepped p h =
       stepped-is p (omega arith) ∙ ap (λ (q : Kind). stepKind q (alarm p) (stateAt b p) (seen p .reading) (seen p .word) (seen p .time)) (digital-of p h .1)
@@ -186,10 +191,12 @@ module _ (image : List ℕ) (past : List (List ℕ)) (b : Bank) (rec : List ℕ)
       stepped-is p h ∙ ap (λ (q : Kind). stepKind q (alarm p) (stateAt b p) (seen p .reading) (seen p .word) (seen p .time)) (analog-of p l h .3)
 
   -- the state after the record, and the event word, of the alarm at a place
-  pub state-after : (p : ℕ) → p < alarmsOf b → getD (planFor b rec .states) p freshState ≡ stepAt rec digital (b .settings .alarms) (b .states) (timeOf rec) p .state
+  pub state-after : (p : ℕ) → p < alarmsOf b
+      → getD (planFor b rec .states) p freshState ≡ stepAt rec digital (b .settings .alarms) (b .states) (timeOf rec) p .state
   unfolding planOf
   state-after p h =
-      placed-below (λ q. stepAt rec digital (b .settings .alarms) (b .states) (timeOf rec) q .state) (alarmsOf b) p (b .states) freshState h (omega (arith, most, v .states-long))
+      placed-below (λ q. stepAt rec digital (b .settings .alarms) (b .states) (timeOf rec) q .state) (alarmsOf b) p (b .states) freshState h
+      (omega (arith, most, v .states-long))
 
   pub word-after : (p : ℕ) → p < alarmsOf b → getD (planFor b rec .events) p 0 ≡ stepAt rec digital (b .settings .alarms) (b .states) (timeOf rec) p .events
   word-after p h = word-at rec digital (b .settings .alarms) (b .states) (timeOf rec) (alarmsOf b) p most h
@@ -204,12 +211,14 @@ module _ (image : List ℕ) (past : List (List ℕ)) (b : Bank) (rec : List ℕ)
 
   marked-after : (p c : ℕ) → p < alarmsOf b → c < 6 → {r : Stepped} → stepAt rec digital (b .settings .alarms) (b .states) (timeOf rec) p ≡ r
       → marksAt marksNext (25 * p + 1 + 4 * c)
-      ≡ marksAfter (turnAt (ackRequired (alarm p .kind) (alarm p .flags)) (startsOf (r .state)) (r .events) (timeOf rec) c) (marksAt (b .marks) (25 * p + 1 + 4 * c))
+      ≡ marksAfter (turnAt (ackRequired (alarm p .kind) (alarm p .flags)) (startsOf (r .state)) (r .events) (timeOf rec) c)
+      (marksAt (b .marks) (25 * p + 1 + 4 * c))
   marked-after p c h l {r} e =
       let w = word-after p h ∙ ap (λ (t : Stepped). t .events) e in
       let s = state-after p h ∙ ap (λ (t : Stepped). t .state) e in
       mark-read (b .settings .alarms) starts (planFor b rec .events) (timeOf rec) (alarmsOf b) p c (b .marks) h l (omega (arith, most, v .marks-long))
-      ∙ (λ i. marksAfter (turnAt (ackRequired (alarm p .kind) (alarm p .flags)) (startsOf (s i)) (w i) (timeOf rec) c) (marksAt (b .marks) (25 * p + 1 + 4 * c)))
+      ∙ (λ i.
+      marksAfter (turnAt (ackRequired (alarm p .kind) (alarm p .flags)) (startsOf (s i)) (w i) (timeOf rec) c) (marksAt (b .marks) (25 * p + 1 + 4 * c)))
 
   stamped-after : (p : ℕ) → p < alarmsOf b → {r : Stepped} → stepAt rec digital (b .settings .alarms) (b .states) (timeOf rec) p ≡ r
       → getD marksNext (25 * p) 0 ≡ timeStampAfter (bit (r .events) 4) (timeOf rec) (getD (b .marks) (25 * p) 0)

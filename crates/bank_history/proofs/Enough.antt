@@ -37,7 +37,8 @@ use Rattle.bank_history.specs.Answers.{alarmAt, isAccepted}
 use Rattle.bank_history.proofs.Banks.{Kept, stateAt, digital-kind}
 
 -- a record that passed the check is accepted where its events have room
-pub accepted-with-room : (b : Bank) (rec : List ℕ) (room : ℕ) → checkOf b rec ≡ Accepted → 16 * length (eventsIn b rec) ≤ room → isAccepted (scanOf b rec room .answer) ≡ true
+pub accepted-with-room : (b : Bank) (rec : List ℕ) (room : ℕ) → checkOf b rec ≡ Accepted → 16 * length (eventsIn b rec) ≤ room
+    → isAccepted (scanOf b rec room .answer) ≡ true
 unfolding checkedScan
 accepted-with-room b rec room ok h =
     ap (λ (x : Scanned). isAccepted (x .answer)) (accepted-scan b rec room ok) ∙ rw (le-ltb room (16 * length (eventsIn b rec)) h) refl

@@ -38,8 +38,11 @@ block w fits = let f = fit-says w fits in ap₂ (λ (x y : Bool). x && y) (eq-eq
 
 module _ (w : Words) (rec : List ℕ) (e : checkOf (bankIn w) rec ≡ Accepted) (long : length (w .states) ≡ 580) where
   -- by whether the buffer is too short
-  by : (t : Bool) → let s : Scanned = cond t (refusedScan (bankIn w) (refusal 12 0)) (record { bank = bankAfter (bankIn w) rec; answer = Events (length (eventsIn (bankIn w) rec)) }) in
-      bankIn (ifAccepted (s .answer) (wordsAfter w rec) w) ≡ s .bank
+  abbrev scanned : Bool → Scanned
+  scanned t =
+      cond t (refusedScan (bankIn w) (refusal 12 0)) (record { bank = bankAfter (bankIn w) rec; answer = Events (length (eventsIn (bankIn w) rec)) })
+
+  by : (t : Bool) → bankIn (ifAccepted (scanned t .answer) (wordsAfter w rec) w) ≡ scanned t .bank
   by true = refl
   by false = bank-after w rec e long
 
@@ -74,10 +77,12 @@ module _ (w : Words) (fits : fitOf w ≡ Accepted) where
   unfolding scannedWords
   bank-on rec room = ap (λ (a : Answer). bankIn (ifAccepted a (wordsAfter w rec) w)) (answer-on rec room) ∙ go (checkOf (bankIn w) rec) refl
     where
-      same : {s t : Scanned} → s ≡ t → bankIn (ifAccepted (t .answer) (wordsAfter w rec) w) ≡ t .bank → bankIn (ifAccepted (s .answer) (wordsAfter w rec) w) ≡ s .bank
+      same : {s t : Scanned} → s ≡ t → bankIn (ifAccepted (t .answer) (wordsAfter w rec) w) ≡ t .bank
+          → bankIn (ifAccepted (s .answer) (wordsAfter w rec) w) ≡ s .bank
       same e h = ap (λ (x : Scanned). bankIn (ifAccepted (x .answer) (wordsAfter w rec) w)) e ∙ h ∙ sym (ap (λ (x : Scanned). x .bank) e)
 
-      go : (r : Reply) → checkOf (bankIn w) rec ≡ r → bankIn (ifAccepted (scanOf (bankIn w) rec room .answer) (wordsAfter w rec) w) ≡ scanOf (bankIn w) rec room .bank
+      go : (r : Reply) → checkOf (bankIn w) rec ≡ r
+          → bankIn (ifAccepted (scanOf (bankIn w) rec room .answer) (wordsAfter w rec) w) ≡ scanOf (bankIn w) rec room .bank
       go Accepted e = same (accepted-scan (bankIn w) rec room e) (checked-on w rec e (fit-says w fits .states-long) room)
       go (RefusedBy r) e = same (refused-scan (bankIn w) rec room e) refl
 

@@ -64,7 +64,9 @@ module _ (image : List ℕ) (past : List (List ℕ)) (b : Bank) (rec : List ℕ)
       let is = next-kept image past b rec v ok .digital p h .held ∙ digital-run (alarm p) q (seen p ∷ before p) in
       ap (λ (x : ℕ). alarmEvents (suc p) (alarm p) (getD (planFor b rec .states) p freshState) x (timeOf rec)) w
       ∙ digital-log (suc p) (alarm p) (stateAt b p) (getD (planFor b rec .states) p freshState) (seen p .reading) (seen p .word) (timeOf rec)
-      ∙ ap₂ (λ (x y : DigitalHeld). eventsFrom (suc p) (alarm p .kind) (x .suppressed) (timeOf rec) 0 (digitalEvents (alarm p) (seen p .reading) (seen p .word) (seen p .time) y)) is was
+      ∙ ap₂
+      (λ (x y : DigitalHeld).
+      eventsFrom (suc p) (alarm p .kind) (x .suppressed) (timeOf rec) 0 (digitalEvents (alarm p) (seen p .reading) (seen p .word) (seen p .time) y)) is was
       ∙ digital-log-is (suc p) (alarm p) (seen p) (before p) k
 
   analog-here : (p : ℕ) → digital ≤ p → p < alarmsOf b → here p ≡ said p

@@ -67,7 +67,8 @@ any-of false false false false false f = sym (or-false f)
 any-invalid : (s : Severities) (g : Limits) (period : ℕ) → anyInvalid s ≡ severityInv (Analog g s period)
 unfolding anyInvalid
 any-invalid s g period =
-    any-of (severityInvalid (s .hh)) (severityInvalid (s .h)) (severityInvalid (s .l)) (severityInvalid (s .ll)) (severityInvalid (s .rocpos)) (severityInvalid (s .rocneg))
+    any-of (severityInvalid (s .hh)) (severityInvalid (s .h)) (severityInvalid (s .l)) (severityInvalid (s .ll)) (severityInvalid (s .rocpos))
+    (severityInvalid (s .rocneg))
 
 -- a condition's status, from what is kept of it
 abbrev statusBy : Bool → Bool → Marks → Status

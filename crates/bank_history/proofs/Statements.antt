@@ -101,16 +101,19 @@ module _ (image : List ℕ) (calls : List Call) (good : Good image) where
   event-bytes-said : (rec out : List ℕ) → eventBuffer b rec out ≡ bufferAfter s past rec out
   event-bytes-said rec out = buffer-said image past b kept rec out ∙ ap (λ (x : Settings). bufferAfter x past rec out) stay
 
-  suffices : (rec : List ℕ) (room : ℕ) → checkRecord (s .digital) (s .analog) (lastAccepted past) rec ≡ Accepted → 3840 ≤ room → isAccepted (scanOf b rec room .answer) ≡ true
+  suffices : (rec : List ℕ) (room : ℕ) → checkRecord (s .digital) (s .analog) (lastAccepted past) rec ≡ Accepted → 3840 ≤ room
+      → isAccepted (scanOf b rec room .answer) ≡ true
   suffices rec room ok h =
-      accepted-with-room b rec room (ap₂ (λ (x : Settings) (t : ℕ). checkRecord (x .digital) (x .analog) t rec) stay (kept .time) ∙ ok) (omega (arith, enough image past b rec kept))
+      accepted-with-room b rec room (ap₂ (λ (x : Settings) (t : ℕ). checkRecord (x .digital) (x .analog) t rec) stay (kept .time) ∙ ok)
+      (omega (arith, enough image past b rec kept))
 
   -- ---- a report
 
   there-is : (n : ℕ) → isThere (b .settings .digital) (b .settings .analog) n ≡ leb 1 n && leb n (s .digital + s .analog)
   unfolding isThere
   there-is n =
-      ap₂ (λ (x y : Bool). x && y && (leb 1 n && leb n (b .settings .digital + b .settings .analog))) (le-leb _ _ (kept .sound .digital-most)) (le-leb _ _ (kept .sound .analog-most))
+      ap₂ (λ (x y : Bool). x && y && (leb 1 n && leb n (b .settings .digital + b .settings .analog))) (le-leb _ _ (kept .sound .digital-most))
+      (le-leb _ _ (kept .sound .analog-most))
       ∙ ap (λ (x : Settings). leb 1 n && leb n (x .digital + x .analog)) stay
 
   report-said : (n : ℕ) → reportOf b n ≡ reportAfter s past n
@@ -173,7 +176,10 @@ module _ (image : List ℕ) (calls : List Call) (good : Good image) where
     scans = scansAt s (n - 1) past
 
     there : reportIn w n ≡ alarmReport a scans
-    there = lent-report n ∙ ap (λ (t : Bool). cond t (alarmReport a scans) noReport) (ap₂ (λ (x y : Bool). x && y) (le-leb 1 n low) (le-leb n (s .digital + s .analog) high))
+    there =
+        lent-report n
+        ∙ ap (λ (t : Bool). cond t (alarmReport a scans) noReport)
+        (ap₂ (λ (x y : Bool). x && y) (le-leb 1 n low) (le-leb n (s .digital + s .analog) high))
 
     reported : getD (reportIn w n .conditions) i noStatus ≡ statusOf (rulesOf a) scans (getD (conditionsOf (a .kind)) i In)
     reported =
@@ -185,7 +191,8 @@ module _ (image : List ℕ) (calls : List Call) (good : Good image) where
     demanded =
         let c = getD (conditionsOf (a .kind)) i In in
         subst (λ (x : Status). Demand3 (facts (rulesOf a)) (x .alarm) (not (x .acked)) (x .count) scans c) (sym reported)
-        (subst (λ (u : Bool). Demand3 (facts (rulesOf a)) (inAlarm (facts (rulesOf a)) scans c) u (count (facts (rulesOf a)) scans c) scans c) (sym (not-not (unacknowledged (facts (rulesOf a)) scans c))) (demand (facts (rulesOf a)) scans c))
+        (subst (λ (u : Bool). Demand3 (facts (rulesOf a)) (inAlarm (facts (rulesOf a)) scans c) u (count (facts (rulesOf a)) scans c) scans c)
+        (sym (not-not (unacknowledged (facts (rulesOf a)) scans c))) (demand (facts (rulesOf a)) scans c))
 
 -- every reply and every byte is what settings and accepted records say
 pub every-reply : EveryReply

@@ -43,13 +43,15 @@ module _ (a : Alarm) (s : State) (x : Scan) where
   digital-turn = rw (digital-bit 4, digital-bit 6, digital-bit 7, digital-bit 8) refl
 
   pub digital-view : (words words′ : List ℕ) (at : ℕ) (past : List Scan) → DigitalView a s words at past
-      → marksAt words′ (at + 1) ≡ marksAfter (turnAt (digitalRequired (a .flags)) (startsOf (digitalStepped .state)) (digitalStepped .events) (x .time) 0) (marksAt words (at + 1))
+      → marksAt words′ (at + 1)
+      ≡ marksAfter (turnAt (digitalRequired (a .flags)) (startsOf (digitalStepped .state)) (digitalStepped .events) (x .time) 0) (marksAt words (at + 1))
       → getD words′ at 0 ≡ timeStampAfter (bit (digitalStepped .events) 4) (x .time) (getD words at 0)
       → DigitalView a (digitalStepped .state) words′ at (x ∷ past)
   unfolding digitalRun digitalMarks resetKept digitalStep
   digital-view words words′ at past v m r =
       record {
-        held = look-digital s (digitalAfter a (x .reading) (x .word) (x .time) (lookDigital s)) ∙ ap (digitalAfter a (x .reading) (x .word) (x .time)) (v .held);
+        held =
+            look-digital s (digitalAfter a (x .reading) (x .word) (x .time) (lookDigital s)) ∙ ap (digitalAfter a (x .reading) (x .word) (x .time)) (v .held);
         marked = m ∙ ap₂ marksAfter (digital-turn ∙ ap (digitalTurn a x) (v .held)) (v .marked);
         stamped = r
             ∙ ap (λ (b : Bool). timeStampAfter b (x .time) (getD words at 0)) (digital-bit 4)

@@ -29,7 +29,8 @@ module _ (alarm : ℕ) (kind : Kind) (suppressed : Bool) (time : ℕ) where
   unfolding eventsOf logBytes recordsOf
   group zero k head word h = refl
   group (suc n) k head word h =
-      go (eqb (word % 2) 1) (eventAt alarm kind suppressed time k) (eventsOf alarm kind suppressed time n (suc k) (word / 2)) (h 0 k head (omega arith) (omega arith) (omega arith))
+      go (eqb (word % 2) 1) (eventAt alarm kind suppressed time k) (eventsOf alarm kind suppressed time n (suc k) (word / 2))
+      (h 0 k head (omega arith) (omega arith) (omega arith))
       (group n (suc k) (head + 65536) (word / 2) (λ i j v l p q. h (suc i) j v (omega arith) (omega arith) (omega arith)))
     where
       go : (b : Bool) (e : Event) (es : List Event) {x ys : List ℕ} → eventBytes e ≡ x → logBytes es ≡ ys → logBytes (cond b (e ∷ es) es) ≡ cond b x [] ++ ys
@@ -44,7 +45,8 @@ module _ (alarm : ℕ) (kind : Kind) (suppressed : Bool) (time : ℕ) where
       one j v m q =
           let w : v ≡ headOf alarm 7 (j + 1) suppressed 0 = omega arith in
           rw (lt-ltb j 6 m, w)
-          (event-bytes (record { alarm = alarm; condition = 7; kind = j + 1; suppressed = suppressed; severity = 0; time = time }) a (omega arith) (omega arith) (omega arith))
+          (event-bytes (record { alarm = alarm; condition = 7; kind = j + 1; suppressed = suppressed; severity = 0; time = time }) a (omega arith)
+          (omega arith) (omega arith))
 
 -- the condition of a bit, by the form
 own-condition : (form : Form) (ws : List ℕ) (from place j : ℕ) → (j - 6) / 3 ≡ place → ownCondition (kindIn form ws from) j ≡ conditionOf form place

@@ -47,10 +47,12 @@ module _ (alarm : ℕ) (kind : Kind) (suppressed : Bool) (time : ℕ) where
   pub events-ones : (n k word : ℕ) → word < 2 ^ n → length (eventsOf alarm kind suppressed time n k word) ≡ ones word
   unfolding eventsOf
   events-ones zero k word h = omega (arith, ones-le 0 word h)
-  events-ones (suc n) k word h = go (eqb (word % 2) 1) (eventAt alarm kind suppressed time k) refl (events-ones n (suc k) (word / 2) (omega (arith, pow-succ' 2 n)))
+  events-ones (suc n) k word h =
+      go (eqb (word % 2) 1) (eventAt alarm kind suppressed time k) refl (events-ones n (suc k) (word / 2) (omega (arith, pow-succ' 2 n)))
     where
       go : (b : Bool) (e : Event) → eqb (word % 2) 1 ≡ b → length (eventsOf alarm kind suppressed time n (suc k) (word / 2)) ≡ ones (word / 2)
-          → length (cond b (e ∷ eventsOf alarm kind suppressed time n (suc k) (word / 2)) (eventsOf alarm kind suppressed time n (suc k) (word / 2))) ≡ ones word
+          → length (cond b (e ∷ eventsOf alarm kind suppressed time n (suc k) (word / 2)) (eventsOf alarm kind suppressed time n (suc k) (word / 2)))
+          ≡ ones word
       go true x e rest = omega (arith, eqb-true (word % 2) 1 e, ones-step word, rest)
       go false x e rest = let z : word % 2 ≡ 0 = even word (eqb-false (word % 2) 1 e) in omega (arith, ones-step word, rest)
 
@@ -61,12 +63,14 @@ module _ (alarm : ℕ) (kind : Kind) (suppressed : Bool) (time : ℕ) where
   events-most (suc n) k word = go (eqb (word % 2) 1) (eventAt alarm kind suppressed time k) refl (events-most n (suc k) (word / 2))
     where
       go : (b : Bool) (e : Event) → eqb (word % 2) 1 ≡ b → length (eventsOf alarm kind suppressed time n (suc k) (word / 2)) ≤ ones (word / 2)
-          → length (cond b (e ∷ eventsOf alarm kind suppressed time n (suc k) (word / 2)) (eventsOf alarm kind suppressed time n (suc k) (word / 2))) ≤ ones word
+          → length (cond b (e ∷ eventsOf alarm kind suppressed time n (suc k) (word / 2)) (eventsOf alarm kind suppressed time n (suc k) (word / 2)))
+          ≤ ones word
       go true x e rest = omega (arith, eqb-true (word % 2) 1 e, ones-step word, rest)
       go false x e rest = omega (arith, ones-step word, rest)
 
   -- the events of a word made of bits are those of the bits, as the marked cases are checked
-  pub events-bits : (n k : ℕ) (bs : List Bool) → length bs ≤ n → eventsOf alarm kind suppressed time n k (wordOf bs) ≡ eventsFrom alarm kind suppressed time k bs
+  pub events-bits : (n k : ℕ) (bs : List Bool) → length bs ≤ n
+      → eventsOf alarm kind suppressed time n k (wordOf bs) ≡ eventsFrom alarm kind suppressed time k bs
   unfolding eventsOf eventsFrom wordOf
   events-bits n k [] h = no-events n k
   events-bits zero k (b ∷ bs) h = absurd (omega arith)
@@ -86,7 +90,9 @@ module _ (alarm : ℕ) (kind : Kind) (suppressed : Bool) (time : ℕ) where
       let p : suc n + m ≡ suc (n + m) = omega arith in
       let q : k + suc n ≡ suc k + n = omega arith in
       let d : word / 2 ^ suc n ≡ word / 2 / 2 ^ n = rw (pow-succ', ← div-div-eq-div-mul) in
-      rw (p, q, d) (go (eqb (word % 2) 1) (eventAt alarm kind suppressed time k) (eventsOf alarm kind suppressed time n (suc k) (word / 2)) _ (events-split n m (suc k) (word / 2)))
+      rw (p, q, d)
+      (go (eqb (word % 2) 1) (eventAt alarm kind suppressed time k) (eventsOf alarm kind suppressed time n (suc k) (word / 2)) _
+      (events-split n m (suc k) (word / 2)))
     where
       go : (b : Bool) (e : Event) (ys zs : List Event) {xs : List Event} → xs ≡ ys ++ zs → cond b (e ∷ xs) xs ≡ cond b (e ∷ ys) ys ++ zs
       go true e ys zs h = ap (λ (l : List Event). e ∷ l) h

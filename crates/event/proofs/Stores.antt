@@ -43,7 +43,14 @@ module _ (alarm condition kind : ℕ) (suppressed : Bool) (severity : ℕ) where
   head-bytes a c k s =
       let b : ℕ = cond suppressed 1 0 in
       let e : headOf alarm condition kind suppressed severity ≡ alarm + 256 * (condition + 256 * (kind + 256 * (b + 256 * severity))) = omega arith in
-      rw (e, byte-first 7 alarm (condition + 256 * (kind + 256 * (b + 256 * severity))) a, byte-first 6 condition (kind + 256 * (b + 256 * severity)) c, byte-first 5 kind (b + 256 * severity) k, byte-first 4 b severity (one-small suppressed), four-bytes severity s)
+      rw (
+        e,
+        byte-first 7 alarm (condition + 256 * (kind + 256 * (b + 256 * severity))) a,
+        byte-first 6 condition (kind + 256 * (b + 256 * severity)) c,
+        byte-first 5 kind (b + 256 * severity) k,
+        byte-first 4 b severity (one-small suppressed),
+        four-bytes severity s,
+      )
 
 -- the first eight bytes of an event as one number, and the time
 pub event-bytes : (e : Event) → e .alarm < 256 → e .condition < 256 → e .kind < 256 → e .severity < 65536
@@ -67,7 +74,10 @@ module _ (time : ℕ) where
   pub record-stores : (out : List ℕ) (at head : ℕ) {l m : List ℕ} → l ≡ sets out at (bytes 8 head) → m ≡ sets l (at + 8) (bytes 8 time)
       → m ≡ sets out at (bytes 8 head ++ bytes 8 time)
   record-stores out at head e f =
-      f ∙ rw e (ap (λ (k : ℕ). sets (sets out at (bytes 8 head)) (at + k) (bytes 8 time)) (sym (length-bytes 8 head)) ∙ sets-append out at (bytes 8 head) (bytes 8 time))
+      f
+      ∙ rw e
+      (ap (λ (k : ℕ). sets (sets out at (bytes 8 head)) (at + k) (bytes 8 time)) (sym (length-bytes 8 head))
+      ∙ sets-append out at (bytes 8 head) (bytes 8 time))
 
   -- three bits
   pub three-length : (head word : ℕ)
@@ -95,7 +105,8 @@ module _ (time : ℕ) where
       let q : word / 2 / 2 / 2 ≡ word / 8 = omega arith in
       simp (p, q, append-assoc)
 
-  pub six-length : (head word : ℕ) → length (recordsOf time 6 head word) ≡ length (recordsOf time 3 head word) + length (recordsOf time 3 (head + 196608) (word / 8))
+  pub six-length : (head word : ℕ)
+      → length (recordsOf time 6 head word) ≡ length (recordsOf time 3 head word) + length (recordsOf time 3 (head + 196608) (word / 8))
   six-length head word = ap length (six-records head word) ∙ length-append (recordsOf time 3 head word) (recordsOf time 3 (head + 196608) (word / 8))
 
   pub six-stores : (out : List ℕ) (at head word : ℕ) {middle : ℕ} {l m : List ℕ}

@@ -103,9 +103,11 @@ fn put_condition(
     place: usize,
     word: u32,
 ) -> usize
-    requires { ⌜ (from + 8 ≤ length (now settings)) × (place < 6) × (at + length (logBytes (eventsOf number (kindIn form (now settings) from) suppressed time 3 (6 + 3 * place) word)) ≤ length (now out)) ⌝ }
+    requires { ⌜ (from + 8 ≤ length (now settings)) × (place < 6) ×
+        (at + length (logBytes (eventsOf number (kindIn form (now settings) from) suppressed time 3 (6 + 3 * place) word)) ≤ length (now out)) ⌝ }
     ensures { λ r. ⌜ r ≡ at + length (logBytes (eventsOf number (kindIn form (now (settings .entry)) from) suppressed time 3 (6 + 3 * place) word)) ⌝ }
-    ensures { λ _. ⌜ now (out .exit) ≡ sets (now (out .entry)) at (logBytes (eventsOf number (kindIn form (now (settings .entry)) from) suppressed time 3 (6 + 3 * place) word)) ⌝ }
+    ensures { λ _. ⌜ now (out .exit) ≡ sets (now (out .entry)) at
+        (logBytes (eventsOf number (kindIn form (now (settings .entry)) from) suppressed time 3 (6 + 3 * place) word)) ⌝ }
 {
     if word % 8 == 0 {
         return at;
@@ -127,9 +129,11 @@ fn put_conditions(
     time: u64,
     word: u32,
 ) -> usize
-    requires { ⌜ (from + 8 ≤ length (now settings)) × (start + length (logBytes (eventsOf number (kindIn form (now settings) from) suppressed time 18 6 word)) ≤ length (now out)) ⌝ }
+    requires { ⌜ (from + 8 ≤ length (now settings)) ×
+        (start + length (logBytes (eventsOf number (kindIn form (now settings) from) suppressed time 18 6 word)) ≤ length (now out)) ⌝ }
     ensures { λ r. ⌜ r ≡ start + length (logBytes (eventsOf number (kindIn form (now (settings .entry)) from) suppressed time 18 6 word)) ⌝ }
-    ensures { λ _. ⌜ now (out .exit) ≡ sets (now (out .entry)) start (logBytes (eventsOf number (kindIn form (now (settings .entry)) from) suppressed time 18 6 word)) ⌝ }
+    ensures { λ _. ⌜ now (out .exit) ≡ sets (now (out .entry)) start
+        (logBytes (eventsOf number (kindIn form (now (settings .entry)) from) suppressed time 18 6 word)) ⌝ }
 {
     let mut rest = word;
     let mut place = 0;
@@ -166,9 +170,11 @@ pub fn put_events(
     time: u64,
     events: u32,
 ) -> usize
-    requires { ⌜ (at + 8 ≤ length (now settings)) × (start + length (logBytes (eventsOf number (kindIn form (now settings) at) suppressed time 24 0 events)) ≤ length (now out)) ⌝ }
+    requires { ⌜ (at + 8 ≤ length (now settings)) ×
+        (start + length (logBytes (eventsOf number (kindIn form (now settings) at) suppressed time 24 0 events)) ≤ length (now out)) ⌝ }
     ensures { λ r. ⌜ r ≡ start + length (logBytes (eventsOf number (kindIn form (now (settings .entry)) at) suppressed time 24 0 events)) ⌝ }
-    ensures { λ _. ⌜ now (out .exit) ≡ sets (now (out .entry)) start (logBytes (eventsOf number (kindIn form (now (settings .entry)) at) suppressed time 24 0 events)) ⌝ }
+    ensures { λ _. ⌜ now (out .exit) ≡ sets (now (out .entry)) start
+        (logBytes (eventsOf number (kindIn form (now (settings .entry)) at) suppressed time 24 0 events)) ⌝ }
 {
     let next = put_whole(out, start, number, suppressed, time, events);
     put_conditions(

@@ -32,10 +32,18 @@ length-statuses cs = length-joined (λ i. conditionBytes cs i) 32 (λ i. length-
 
 pub length-report : (r : AlarmReport) → length (reportBytes r) ≡ 224
 unfolding reportBytes
-length-report r = omega (arith, length-append (rowBytes (wholeRow (r .alarm) (r .resettime))) (statusesBytes (r .conditions)), length-row (wholeRow (r .alarm) (r .resettime)), length-statuses (r .conditions))
+length-report r =
+    omega (
+      arith,
+      length-append (rowBytes (wholeRow (r .alarm) (r .resettime))) (statusesBytes (r .conditions)),
+      length-row (wholeRow (r .alarm) (r .resettime)),
+      length-statuses (r .conditions),
+    )
 
 -- the row of the whole alarm, then its conditions
 pub report-stores : (r : AlarmReport) (l : List ℕ) (at : ℕ)
     → sets (sets l at (rowBytes (wholeRow (r .alarm) (r .resettime)))) (at + 32) (statusesBytes (r .conditions)) ≡ sets l at (reportBytes r)
 unfolding reportBytes
-report-stores r l at = then l at (rowBytes (wholeRow (r .alarm) (r .resettime))) (statusesBytes (r .conditions)) (at + 32) (ap (λ (m : ℕ). at + m) (sym (length-row (wholeRow (r .alarm) (r .resettime)))))
+report-stores r l at =
+    then l at (rowBytes (wholeRow (r .alarm) (r .resettime))) (statusesBytes (r .conditions)) (at + 32)
+    (ap (λ (m : ℕ). at + m) (sym (length-row (wholeRow (r .alarm) (r .resettime)))))

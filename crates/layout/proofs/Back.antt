@@ -19,7 +19,8 @@ use Rattle.settings.specs.declared.types.Severities.{Severities}
 use Rattle.settings.specs.declared.types.Settings.{Settings}
 use Rattle.settings.specs.declared.types.Form.{Form}
 use Rattle.settings.specs.declared.types.Form.the-variants.{Digital as DigitalForm, Analog as AnalogForm}
-use Rattle.layout.specs.Internal.Words.{lowerOf, upperOf, pairOf, lowerReal, upperReal, realsOf, limitsIn, severitiesIn, alarmIn, digitalOf, analogOf, digitalWords, analogWords, alarmWords}
+use Rattle.layout.specs.Internal.Words.{lowerOf, upperOf, pairOf, lowerReal, upperReal, realsOf, limitsIn, severitiesIn, alarmIn, digitalOf, analogOf}
+use Rattle.layout.specs.Internal.Words.{digitalWords, analogWords, alarmWords}
 use Rattle.layout.specs.Internal.Block.{alarmAt, headWords, alarmsWords, settingsWords, placed, alarmOn, countIn, settingsIn, isBlock}
 use Rattle.layout.proofs.Laws.{alarm-same, length-alarm, length-alarms, length-settings, length-placed, placed-below, placed-above}
 
@@ -98,7 +99,8 @@ blank-at p h = getD-replicate 24 p blank blank h
 
 -- ---- the words of an alarm among those of all
 
-alarms-word : (alarms : List Alarm) (p k : ℕ) → p < length alarms → k < 8 → getD (alarmsWords alarms) (8 * p + k) 0 ≡ getD (alarmWords (getD alarms p blank)) k 0
+alarms-word : (alarms : List Alarm) (p k : ℕ) → p < length alarms → k < 8
+    → getD (alarmsWords alarms) (8 * p + k) 0 ≡ getD (alarmWords (getD alarms p blank)) k 0
 unfolding alarmsWords
 alarms-word [] p k h m = absurd (omega arith)
 alarms-word (a ∷ rest) zero k h m = rw zero-add (List·getD-append (alarmWords a) (alarmsWords rest) 0 k (omega (arith, length-alarm a)))

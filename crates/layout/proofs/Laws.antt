@@ -45,7 +45,15 @@ module _ (ws us : List ℕ) (at b : ℕ) (same : (k : ℕ) → k < 8 → getD us
   unfolding limitsIn severitiesIn
   kind-same DigitalForm = rw (same 5 (omega arith))
   kind-same AnalogForm =
-      rw (same 1 (omega arith), same 2 (omega arith), same 3 (omega arith), same 4 (omega arith), same 5 (omega arith), same 6 (omega arith), same 7 (omega arith))
+      rw (
+        same 1 (omega arith),
+        same 2 (omega arith),
+        same 3 (omega arith),
+        same 4 (omega arith),
+        same 5 (omega arith),
+        same 6 (omega arith),
+        same 7 (omega arith),
+      )
 
   -- an alarm is read off its eight words alone
   pub alarm-same : (form : Form) → alarmIn form us b ≡ alarmIn form ws at

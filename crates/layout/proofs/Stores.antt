@@ -10,7 +10,8 @@ use Rattle.wire.proofs.Laws.{sets-append}
 use Rattle.settings.specs.declared.types.Limits.{Limits}
 use Rattle.settings.specs.declared.types.Severities.{Severities}
 use Rattle.settings.specs.declared.types.Form.the-variants.{Digital as DigitalForm, Analog as AnalogForm}
-use Rattle.layout.specs.Internal.Words.{lowerOf, upperOf, pairOf, lowerReal, upperReal, realsOf, limitsIn, severitiesIn, alarmIn, digitalOf, analogOf, digitalWords, analogWords}
+use Rattle.layout.specs.Internal.Words.{lowerOf, upperOf, pairOf, lowerReal, upperReal, realsOf, limitsIn, severitiesIn, alarmIn, digitalOf, analogOf}
+use Rattle.layout.specs.Internal.Words.{digitalWords, analogWords}
 use Rattle.layout.proofs.Laws.{alarm-stored}
 
 -- four stores, as the code makes them

@@ -105,7 +105,10 @@ pub record Marked : Type 0 where
   pub k12-over : written (digitalImage 3 1001 0) [] (bit 0 1 0) 16 ≡ eventBytes (event 0 0 8 1000)
 
 pub all-marked : Marked
-unfolding value bytes largest bounded blanks empty limitsInRange inRange rising banded apart since countFrom rowStart latest inAlarm acks acting eventBytes logBytes met frees newRate sampledAt rateIn countAt severitiesAt limitsAt fieldsAt checked recordAt recordsFrom sectionAt restOf readOf isOneOf setsOnly entryAt checkFrom whole checkRecord sampleIn noStatuses noReport scanLog accepted digitalImage words analogImage bit real ofBits ofInt sub add mul div neg lt le eq toBits
+unfolding value bytes largest bounded blanks empty limitsInRange inRange rising banded apart since countFrom rowStart latest inAlarm acks acting
+    eventBytes logBytes met frees newRate sampledAt rateIn countAt severitiesAt limitsAt fieldsAt checked recordAt recordsFrom sectionAt restOf readOf
+    isOneOf setsOnly entryAt checkFrom whole checkRecord sampleIn noStatuses noReport scanLog accepted digitalImage words analogImage bit real ofBits
+    ofInt sub add mul div neg lt le eq toBits
 all-marked =
     record {
       k1 = refl;
@@ -151,7 +154,10 @@ pub several : written (analogImage 22 numbers 0 0) (real 0 0x44480000 0 ∷ []) 
     ∷ record { alarm = 1; condition = 2; kind = 6; suppressed = true; severity = 500; time = 5 }
     ∷ record { alarm = 1; condition = 2; kind = 7; suppressed = true; severity = 500; time = 5 }
     ∷ record { alarm = 1; condition = 3; kind = 8; suppressed = true; severity = 500; time = 5 } ∷ [])
-unfolding value bytes largest bounded blanks empty limitsInRange inRange rising banded apart since countFrom rowStart latest inAlarm acks acting eventBytes logBytes met frees newRate sampledAt rateIn countAt severitiesAt limitsAt fieldsAt checked recordAt recordsFrom sectionAt restOf readOf isOneOf setsOnly entryAt checkFrom whole checkRecord sampleIn noStatuses noReport scanLog accepted digitalImage words analogImage bit real ofBits ofInt sub add mul div neg lt le eq
+unfolding value bytes largest bounded blanks empty limitsInRange inRange rising banded apart since countFrom rowStart latest inAlarm acks acting
+    eventBytes logBytes met frees newRate sampledAt rateIn countAt severitiesAt limitsAt fieldsAt checked recordAt recordsFrom sectionAt restOf readOf
+    isOneOf setsOnly entryAt checkFrom whole checkRecord sampleIn noStatuses noReport scanLog accepted digitalImage words analogImage bit real ofBits
+    ofInt sub add mul div neg lt le eq
 several = refl
 
 -- the listing: its events, and how its condition ends
@@ -169,7 +175,10 @@ pub record Listing : Type 0 where
       ≡ record { alarm = false; acked = true; count = 1; alarmtime = 1000; acktime = 1400; returntime = 1300 }
 
 pub listing : Listing
-unfolding value bytes largest bounded blanks empty limitsInRange inRange rising banded apart since countFrom rowStart latest inAlarm acks acting eventBytes logBytes met frees newRate sampledAt rateIn countAt severitiesAt limitsAt fieldsAt checked recordAt recordsFrom sectionAt restOf readOf isOneOf setsOnly entryAt checkFrom whole checkRecord sampleIn noStatuses noReport scanLog accepted digitalImage words analogImage bit real ofBits ofInt sub add mul div neg lt le eq
+unfolding value bytes largest bounded blanks empty limitsInRange inRange rising banded apart since countFrom rowStart latest inAlarm acks acting
+    eventBytes logBytes met frees newRate sampledAt rateIn countAt severitiesAt limitsAt fieldsAt checked recordAt recordsFrom sectionAt restOf readOf
+    isOneOf setsOnly entryAt checkFrom whole checkRecord sampleIn noStatuses noReport scanLog accepted digitalImage words analogImage bit real ofBits
+    ofInt sub add mul div neg lt le eq
 listing = record { at-1000 = refl; at-1100 = refl; at-1200 = refl; at-1300 = refl; at-1400 = refl; at-1500 = refl; end = refl }
 
 -- an image of the listing is the one that document 01 prints

@@ -44,5 +44,6 @@ pub alarms-outside : (alarms : List Alarm) (starts : ℕ → List ℕ) (events :
 unfolding markAlarms
 alarms-outside alarms starts events time zero j xs h = refl
 alarms-outside alarms starts events time (suc n) j xs h =
-    alarm-outside (ackRequired (getD alarms n blank .kind) (getD alarms n blank .flags)) (starts n) (getD events n 0) time (25 * n) j (markAlarms alarms starts events time n xs) (λ k l e. omega arith)
+    alarm-outside (ackRequired (getD alarms n blank .kind) (getD alarms n blank .flags)) (starts n) (getD events n 0) time (25 * n) j
+    (markAlarms alarms starts events time n xs) (λ k l e. omega arith)
     ∙ alarms-outside alarms starts events time n j xs (omega arith)

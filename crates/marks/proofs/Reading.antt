@@ -49,7 +49,8 @@ module _ (required : Bool) (starts : List ℕ) (word time : ℕ) where
       let ys = markConditions required starts word time base n xs in
       let len = length-conditions required starts word time base n xs in
       words-read (after required starts word time n (marksAt ys (base + 4 * n))) ys (base + 4 * n) (omega arith)
-      ∙ ap (after required starts word time n) (marks-same ys xs (base + 4 * n) (λ j l m. conditions-outside required starts word time base n j xs (λ k p e. omega arith)))
+      ∙ ap (after required starts word time n)
+      (marks-same ys xs (base + 4 * n) (λ j l m. conditions-outside required starts word time base n j xs (λ k p e. omega arith)))
 
   conditions-read : (base n c : ℕ) (xs : List ℕ) → c < n → base + 4 * n ≤ length xs
       → marksAt (markConditions required starts word time base n xs) (base + 4 * c) ≡ after required starts word time c (marksAt xs (base + 4 * c))
@@ -58,7 +59,9 @@ module _ (required : Bool) (starts : List ℕ) (word time : ℕ) where
       let ys = markConditions required starts word time base n xs in
       let zs = markConditions required starts word time base (suc n) xs in
       below (λ (k : ℕ). marksAt zs (base + 4 * k) ≡ after required starts word time k (marksAt xs (base + 4 * k))) l (condition-read base n xs h)
-      (λ m. marks-same zs ys (base + 4 * c) (λ j p q. condition-outside required starts word time base n j xs (λ k r e. omega arith)) ∙ conditions-read base n c xs m (omega arith))
+      (λ m.
+      marks-same zs ys (base + 4 * c) (λ j p q. condition-outside required starts word time base n j xs (λ k r e. omega arith))
+      ∙ conditions-read base n c xs m (omega arith))
 
   alarm-read : (at c : ℕ) (xs : List ℕ) → c < 6 → at + 25 ≤ length xs
       → marksAt (markAlarm required starts word time at xs) (at + 1 + 4 * c) ≡ after required starts word time c (marksAt xs (at + 1 + 4 * c))
@@ -82,20 +85,23 @@ module _ (alarms : List Alarm) (starts : ℕ → List ℕ) (events : List ℕ) (
   required p = ackRequired (getD alarms p blank .kind) (getD alarms p blank .flags)
 
   -- marking the last of n + 1 alarms leaves those before it
-  alarm-before : (n j : ℕ) (xs : List ℕ) → j < 25 * n → getD (markAlarms alarms starts events time (suc n) xs) j 0 ≡ getD (markAlarms alarms starts events time n xs) j 0
+  alarm-before : (n j : ℕ) (xs : List ℕ) → j < 25 * n
+      → getD (markAlarms alarms starts events time (suc n) xs) j 0 ≡ getD (markAlarms alarms starts events time n xs) j 0
   unfolding markAlarms
   alarm-before n j xs h =
       alarm-outside (required n) (starts n) (getD events n 0) time (25 * n) j (markAlarms alarms starts events time n xs) (λ k l e. omega arith)
 
   -- the last of n + 1 alarms
   alarm-marks : (n c : ℕ) (xs : List ℕ) → c < 6 → 25 * suc n ≤ length xs
-      → marksAt (markAlarms alarms starts events time (suc n) xs) (25 * n + 1 + 4 * c) ≡ after (required n) (starts n) (getD events n 0) time c (marksAt xs (25 * n + 1 + 4 * c))
+      → marksAt (markAlarms alarms starts events time (suc n) xs) (25 * n + 1 + 4 * c)
+      ≡ after (required n) (starts n) (getD events n 0) time c (marksAt xs (25 * n + 1 + 4 * c))
   unfolding markAlarms
   alarm-marks n c xs l h =
       let ys = markAlarms alarms starts events time n xs in
       let len = marks-length alarms starts events time n xs in
       alarm-read (required n) (starts n) (getD events n 0) time (25 * n) c ys l (omega arith)
-      ∙ ap (after (required n) (starts n) (getD events n 0) time c) (marks-same ys xs (25 * n + 1 + 4 * c) (λ j p q. alarms-outside alarms starts events time n j xs (omega arith)))
+      ∙ ap (after (required n) (starts n) (getD events n 0) time c)
+      (marks-same ys xs (25 * n + 1 + 4 * c) (λ j p q. alarms-outside alarms starts events time n j xs (omega arith)))
 
   alarm-reset : (n : ℕ) (xs : List ℕ) → 25 * suc n ≤ length xs
       → getD (markAlarms alarms starts events time (suc n) xs) (25 * n) 0 ≡ timeStampAfter (bit (getD events n 0) 4) time (getD xs (25 * n) 0)
@@ -109,12 +115,14 @@ module _ (alarms : List Alarm) (starts : ℕ → List ℕ) (events : List ℕ) (
   -- a condition's words after the scan, from those before it
   pub mark-read : (n p c : ℕ) (xs : List ℕ) → p < n → c < 6 → 25 * n ≤ length xs
       → marksAt (markAlarms alarms starts events time n xs) (25 * p + 1 + 4 * c)
-      ≡ marksAfter (turnAt (ackRequired (getD alarms p blank .kind) (getD alarms p blank .flags)) (starts p) (getD events p 0) time c) (marksAt xs (25 * p + 1 + 4 * c))
+      ≡ marksAfter (turnAt (ackRequired (getD alarms p blank .kind) (getD alarms p blank .flags)) (starts p) (getD events p 0) time c)
+      (marksAt xs (25 * p + 1 + 4 * c))
   mark-read zero p c xs l m h = absurd (not-suc-le-zero l)
   mark-read (suc n) p c xs l m h =
       let ys = markAlarms alarms starts events time n xs in
       let zs = markAlarms alarms starts events time (suc n) xs in
-      below (λ (k : ℕ). marksAt zs (25 * k + 1 + 4 * c) ≡ after (required k) (starts k) (getD events k 0) time c (marksAt xs (25 * k + 1 + 4 * c))) l (alarm-marks n c xs m h)
+      below (λ (k : ℕ). marksAt zs (25 * k + 1 + 4 * c) ≡ after (required k) (starts k) (getD events k 0) time c (marksAt xs (25 * k + 1 + 4 * c))) l
+      (alarm-marks n c xs m h)
       (λ b. marks-same zs ys (25 * p + 1 + 4 * c) (λ j _ q. alarm-before n j xs (omega arith)) ∙ mark-read n p c xs b m (omega arith))
 
   -- an alarm's count reset stamp after the scan, from that before it
@@ -122,5 +130,7 @@ module _ (alarms : List Alarm) (starts : ℕ → List ℕ) (events : List ℕ) (
       → getD (markAlarms alarms starts events time n xs) (25 * p) 0 ≡ timeStampAfter (bit (getD events p 0) 4) time (getD xs (25 * p) 0)
   reset-read zero p xs l h = absurd (not-suc-le-zero l)
   reset-read (suc n) p xs l h =
-      below (λ (k : ℕ). getD (markAlarms alarms starts events time (suc n) xs) (25 * k) 0 ≡ timeStampAfter (bit (getD events k 0) 4) time (getD xs (25 * k) 0)) l (alarm-reset n xs h)
+      below
+      (λ (k : ℕ). getD (markAlarms alarms starts events time (suc n) xs) (25 * k) 0 ≡ timeStampAfter (bit (getD events k 0) 4) time (getD xs (25 * k) 0)) l
+      (alarm-reset n xs h)
       (λ b. alarm-before n (25 * p) xs (omega arith) ∙ reset-read n p xs b (omega arith))

@@ -17,11 +17,14 @@ use Rattle.marks.specs.Internal.Marks.{turnBy, markCondition, markCondit
 
 -- four words stored where they stand
 words-still : (xs : List ℕ) (at : ℕ)
-    → set (set (set (set xs at (getD xs at 0)) (suc at) (getD xs (suc at) 0)) (suc (suc at)) (getD xs (suc (suc at)) 0)) (suc (suc (suc at))) (getD xs (suc (suc (suc at))) 0) ≡ xs
+    → set (set (set (set xs at (getD xs at 0)) (suc at) (getD xs (suc at) 0)) (suc (suc at)) (getD xs (suc (suc at)) 0)) (suc (suc (suc at)))
+    (getD xs (suc (suc (suc at))) 0)
+    ≡ xs
 words-still xs at = rw (set-getD, set-getD, set-getD, set-getD)
 
 pub condition-still : (required : Bool) (start time at : ℕ) (xs : List ℕ)
-    → markCondition (record { reset = false; acknowledged = false; returned = false; activated = false; required = required; start = start; time = time }) at xs ≡ xs
+    → markCondition (record { reset = false; acknowledged = false; returned = false; activated = false; required = required; start = start; time = time }) at xs
+    ≡ xs
 unfolding markCondition
 condition-still required start time at xs = rw (add-one at, add-two at, add-three at) (words-still xs at)
 

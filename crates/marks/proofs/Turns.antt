@@ -40,7 +40,14 @@ pub conditions-next : (required : Bool) (starts : List ℕ) (word time base n : 
     ≡ markConditions required starts word time base (n + 1) xs
 unfolding markConditions
 conditions-next required starts word time base n xs e f g =
-    rw (rest-bit word n 0 (6 + 3 * n) e (omega arith), rest-bit word n 1 (7 + 3 * n) e (omega arith), rest-bit word n 2 (8 + 3 * n) e (omega arith), f, g, add-one n)
+    rw (
+      rest-bit word n 0 (6 + 3 * n) e (omega arith),
+      rest-bit word n 1 (7 + 3 * n) e (omega arith),
+      rest-bit word n 2 (8 + 3 * n) e (omega arith),
+      f,
+      g,
+      add-one n,
+    )
 
 -- the first n alarms are marked, and then the next
 pub alarms-next : (alarms : List Alarm) (starts : ℕ → List ℕ) (events : List ℕ) (time n : ℕ) (xs : List ℕ) {required : Bool} {own : List ℕ} {marks : List ℕ}

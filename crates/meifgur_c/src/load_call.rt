@@ -26,11 +26,17 @@ pub extern "C" fn meifgur_load_words(
     marks: &mut [u64],
     answer: &mut [u64],
 ) -> u32
-    ensures { λ r. ⌜ r ≡ unless (shortAnswer 4 (now (answer .entry))) 40 (replyNumber (loadReply (wordsIn (now (settings .entry)) (now (states .entry)) (now (marks .entry))) (now (image .entry)))) ⌝ }
-    ensures { λ _. ⌜ now (settings .exit) ≡ unless (shortAnswer 4 (now (answer .entry))) (now (settings .entry)) (loadWords (wordsIn (now (settings .entry)) (now (states .entry)) (now (marks .entry))) (now (image .entry)) .settings) ⌝ }
-    ensures { λ _. ⌜ now (states .exit) ≡ unless (shortAnswer 4 (now (answer .entry))) (now (states .entry)) (loadWords (wordsIn (now (settings .entry)) (now (states .entry)) (now (marks .entry))) (now (image .entry)) .states) ⌝ }
-    ensures { λ _. ⌜ now (marks .exit) ≡ unless (shortAnswer 4 (now (answer .entry))) (now (marks .entry)) (loadWords (wordsIn (now (settings .entry)) (now (states .entry)) (now (marks .entry))) (now (image .entry)) .marks) ⌝ }
-    ensures { λ _. ⌜ now (answer .exit) ≡ unless (shortAnswer 4 (now (answer .entry))) (now (answer .entry)) (sets (now (answer .entry)) 0 (loadAnswer (loadReply (wordsIn (now (settings .entry)) (now (states .entry)) (now (marks .entry))) (now (image .entry))) (loadWords (wordsIn (now (settings .entry)) (now (states .entry)) (now (marks .entry))) (now (image .entry)) .settings))) ⌝ }
+    ensures { λ r. ⌜ r ≡ unless (shortAnswer 4 (now (answer .entry))) 40
+        (replyNumber (loadReply (wordsIn (now (settings .entry)) (now (states .entry)) (now (marks .entry))) (now (image .entry)))) ⌝ }
+    ensures { λ _. ⌜ now (settings .exit) ≡ unless (shortAnswer 4 (now (answer .entry))) (now (settings .entry))
+        (loadWords (wordsIn (now (settings .entry)) (now (states .entry)) (now (marks .entry))) (now (image .entry)) .settings) ⌝ }
+    ensures { λ _. ⌜ now (states .exit) ≡ unless (shortAnswer 4 (now (answer .entry))) (now (states .entry))
+        (loadWords (wordsIn (now (settings .entry)) (now (states .entry)) (now (marks .entry))) (now (image .entry)) .states) ⌝ }
+    ensures { λ _. ⌜ now (marks .exit) ≡ unless (shortAnswer 4 (now (answer .entry))) (now (marks .entry))
+        (loadWords (wordsIn (now (settings .entry)) (now (states .entry)) (now (marks .entry))) (now (image .entry)) .marks) ⌝ }
+    ensures { λ _. ⌜ now (answer .exit) ≡ unless (shortAnswer 4 (now (answer .entry))) (now (answer .entry)) (sets (now (answer .entry)) 0 (loadAnswer
+        (loadReply (wordsIn (now (settings .entry)) (now (states .entry)) (now (marks .entry))) (now (image .entry)))
+        (loadWords (wordsIn (now (settings .entry)) (now (states .entry)) (now (marks .entry))) (now (image .entry)) .settings))) ⌝ }
 {
     if answer.len() < LOAD_ANSWER {
         return SHORT_ANSWER;

@@ -21,11 +21,17 @@ pub extern "C" fn meifgur_replay_words(
     events: &mut [u8],
     answer: &mut [u64],
 ) -> u32
-    ensures { λ r. ⌜ r ≡ unless (shortAnswer 5 (now (answer .entry))) 40 (replyNumber (replayedOf (wordsIn (now (settings .entry)) (now (states .entry)) (now (marks .entry))) (now (records .entry)) (now (events .entry)) .reply)) ⌝ }
-    ensures { λ _. ⌜ now (states .exit) ≡ unless (shortAnswer 5 (now (answer .entry))) (now (states .entry)) (replayedWords (wordsIn (now (settings .entry)) (now (states .entry)) (now (marks .entry))) (now (records .entry)) (now (events .entry)) .states) ⌝ }
-    ensures { λ _. ⌜ now (marks .exit) ≡ unless (shortAnswer 5 (now (answer .entry))) (now (marks .entry)) (replayedWords (wordsIn (now (settings .entry)) (now (states .entry)) (now (marks .entry))) (now (records .entry)) (now (events .entry)) .marks) ⌝ }
-    ensures { λ _. ⌜ now (events .exit) ≡ unless (shortAnswer 5 (now (answer .entry))) (now (events .entry)) (replayedBuffer (wordsIn (now (settings .entry)) (now (states .entry)) (now (marks .entry))) (now (records .entry)) (now (events .entry))) ⌝ }
-    ensures { λ _. ⌜ now (answer .exit) ≡ unless (shortAnswer 5 (now (answer .entry))) (now (answer .entry)) (sets (now (answer .entry)) 0 (replayAnswer (replayedOf (wordsIn (now (settings .entry)) (now (states .entry)) (now (marks .entry))) (now (records .entry)) (now (events .entry))))) ⌝ }
+    ensures { λ r. ⌜ r ≡ unless (shortAnswer 5 (now (answer .entry))) 40 (replyNumber
+        (replayedOf (wordsIn (now (settings .entry)) (now (states .entry)) (now (marks .entry))) (now (records .entry)) (now (events .entry)) .reply)) ⌝ }
+    ensures { λ _. ⌜ now (states .exit) ≡ unless (shortAnswer 5 (now (answer .entry))) (now (states .entry))
+        (replayedWords (wordsIn (now (settings .entry)) (now (states .entry)) (now (marks .entry))) (now (records .entry)) (now (events .entry)) .states) ⌝ }
+    ensures { λ _. ⌜ now (marks .exit) ≡ unless (shortAnswer 5 (now (answer .entry))) (now (marks .entry))
+        (replayedWords (wordsIn (now (settings .entry)) (now (states .entry)) (now (marks .entry))) (now (records .entry)) (now (events .entry)) .marks) ⌝ }
+    ensures { λ _. ⌜ now (events .exit) ≡ unless (shortAnswer 5 (now (answer .entry))) (now (events .entry))
+        (replayedBuffer (wordsIn (now (settings .entry)) (now (states .entry)) (now (marks .entry))) (now (records .entry)) (now (events .entry))) ⌝ }
+    ensures { λ _. ⌜ now (answer .exit) ≡ unless (shortAnswer 5 (now (answer .entry))) (now (answer .entry)) (sets (now (answer .entry)) 0
+        (replayAnswer
+        (replayedOf (wordsIn (now (settings .entry)) (now (states .entry)) (now (marks .entry))) (now (records .entry)) (now (events .entry))))) ⌝ }
 {
     if answer.len() < REPLAY_ANSWER {
         return SHORT_ANSWER;

@@ -40,9 +40,12 @@ pub extern "C" fn meifgur_report_words(
     out: &mut [u8],
     answer: &mut [u64],
 ) -> u32
-    ensures { λ r. ⌜ r ≡ reportCode (length (now (answer .entry))) (length (now (out .entry))) (reportIn (wordsIn (now (settings .entry)) (now (states .entry)) (now (marks .entry))) alarm) ⌝ }
-    ensures { λ _. ⌜ now (out .exit) ≡ unless (shortAnswer 2 (now (answer .entry)) || ltb (length (now (out .entry))) 224) (now (out .entry)) (reportOut (reportIn (wordsIn (now (settings .entry)) (now (states .entry)) (now (marks .entry))) alarm) (now (out .entry))) ⌝ }
-    ensures { λ _. ⌜ now (answer .exit) ≡ unless (shortAnswer 2 (now (answer .entry)) || ltb (length (now (out .entry))) 224) (now (answer .entry)) (sets (now (answer .entry)) 0 (replyWords (reportIn (wordsIn (now (settings .entry)) (now (states .entry)) (now (marks .entry))) alarm .reply))) ⌝ }
+    ensures { λ r. ⌜ r ≡ reportCode (length (now (answer .entry))) (length (now (out .entry)))
+        (reportIn (wordsIn (now (settings .entry)) (now (states .entry)) (now (marks .entry))) alarm) ⌝ }
+    ensures { λ _. ⌜ now (out .exit) ≡ unless (shortAnswer 2 (now (answer .entry)) || ltb (length (now (out .entry))) 224) (now (out .entry))
+        (reportOut (reportIn (wordsIn (now (settings .entry)) (now (states .entry)) (now (marks .entry))) alarm) (now (out .entry))) ⌝ }
+    ensures { λ _. ⌜ now (answer .exit) ≡ unless (shortAnswer 2 (now (answer .entry)) || ltb (length (now (out .entry))) 224) (now (answer .entry))
+        (sets (now (answer .entry)) 0 (replyWords (reportIn (wordsIn (now (settings .entry)) (now (states .entry)) (now (marks .entry))) alarm .reply))) ⌝ }
 {
     if answer.len() < REPORT_ANSWER {
         return SHORT_ANSWER;

@@ -20,11 +20,16 @@ pub extern "C" fn meifgur_scan_words(
     events: &mut [u8],
     answer: &mut [u64],
 ) -> u32
-    ensures { λ r. ⌜ r ≡ unless (shortAnswer 3 (now (answer .entry))) 40 (scanNumber (answerOf (wordsIn (now (settings .entry)) (now (states .entry)) (now (marks .entry))) (now (bytes .entry)) (length (now (events .entry))))) ⌝ }
-    ensures { λ _. ⌜ now (states .exit) ≡ unless (shortAnswer 3 (now (answer .entry))) (now (states .entry)) (scannedWords (wordsIn (now (settings .entry)) (now (states .entry)) (now (marks .entry))) (now (bytes .entry)) (length (now (events .entry))) .states) ⌝ }
-    ensures { λ _. ⌜ now (marks .exit) ≡ unless (shortAnswer 3 (now (answer .entry))) (now (marks .entry)) (scannedWords (wordsIn (now (settings .entry)) (now (states .entry)) (now (marks .entry))) (now (bytes .entry)) (length (now (events .entry))) .marks) ⌝ }
-    ensures { λ _. ⌜ now (events .exit) ≡ unless (shortAnswer 3 (now (answer .entry))) (now (events .entry)) (bufferOf (wordsIn (now (settings .entry)) (now (states .entry)) (now (marks .entry))) (now (bytes .entry)) (now (events .entry))) ⌝ }
-    ensures { λ _. ⌜ now (answer .exit) ≡ unless (shortAnswer 3 (now (answer .entry))) (now (answer .entry)) (sets (now (answer .entry)) 0 (scanAnswer (answerOf (wordsIn (now (settings .entry)) (now (states .entry)) (now (marks .entry))) (now (bytes .entry)) (length (now (events .entry)))))) ⌝ }
+    ensures { λ r. ⌜ r ≡ unless (shortAnswer 3 (now (answer .entry))) 40 (scanNumber
+        (answerOf (wordsIn (now (settings .entry)) (now (states .entry)) (now (marks .entry))) (now (bytes .entry)) (length (now (events .entry))))) ⌝ }
+    ensures { λ _. ⌜ now (states .exit) ≡ unless (shortAnswer 3 (now (answer .entry))) (now (states .entry)) (scannedWords
+        (wordsIn (now (settings .entry)) (now (states .entry)) (now (marks .entry))) (now (bytes .entry)) (length (now (events .entry))) .states) ⌝ }
+    ensures { λ _. ⌜ now (marks .exit) ≡ unless (shortAnswer 3 (now (answer .entry))) (now (marks .entry)) (scannedWords
+        (wordsIn (now (settings .entry)) (now (states .entry)) (now (marks .entry))) (now (bytes .entry)) (length (now (events .entry))) .marks) ⌝ }
+    ensures { λ _. ⌜ now (events .exit) ≡ unless (shortAnswer 3 (now (answer .entry))) (now (events .entry))
+        (bufferOf (wordsIn (now (settings .entry)) (now (states .entry)) (now (marks .entry))) (now (bytes .entry)) (now (events .entry))) ⌝ }
+    ensures { λ _. ⌜ now (answer .exit) ≡ unless (shortAnswer 3 (now (answer .entry))) (now (answer .entry)) (sets (now (answer .entry)) 0 (scanAnswer
+        (answerOf (wordsIn (now (settings .entry)) (now (states .entry)) (now (marks .entry))) (now (bytes .entry)) (length (now (events .entry)))))) ⌝ }
 {
     if answer.len() < SCAN_ANSWER {
         return SHORT_ANSWER;

@@ -13,8 +13,10 @@ use image::write::write;
 #[no_mangle]
 pub extern "C" fn meifgur_write_words(settings: &[u64], out: &mut [u8], answer: &mut [u64]) -> u32
     ensures { λ r. ⌜ r ≡ unless (shortAnswer 3 (now (answer .entry))) 40 (writeNumber (writeOf (now (settings .entry)) (length (now (out .entry))))) ⌝ }
-    ensures { λ _. ⌜ now (out .exit) ≡ unless (shortAnswer 3 (now (answer .entry))) (now (out .entry)) (writeBuffer (now (settings .entry)) (now (out .entry))) ⌝ }
-    ensures { λ _. ⌜ now (answer .exit) ≡ unless (shortAnswer 3 (now (answer .entry))) (now (answer .entry)) (sets (now (answer .entry)) 0 (writeAnswer (writeOf (now (settings .entry)) (length (now (out .entry)))))) ⌝ }
+    ensures { λ _. ⌜ now (out .exit) ≡ unless (shortAnswer 3 (now (answer .entry))) (now (out .entry))
+        (writeBuffer (now (settings .entry)) (now (out .entry))) ⌝ }
+    ensures { λ _. ⌜ now (answer .exit) ≡ unless (shortAnswer 3 (now (answer .entry))) (now (answer .entry))
+        (sets (now (answer .entry)) 0 (writeAnswer (writeOf (now (settings .entry)) (length (now (out .entry)))))) ⌝ }
 {
     if answer.len() < WRITE_ANSWER {
         return SHORT_ANSWER;

@@ -76,7 +76,8 @@ module _ (p : Progress) (i : ℕ) (rec : List ℕ) where
   lent-all = take-all (length (p .buffer) - used) (leftOf p) (omega (arith, length-drop used (p .buffer)))
 
   -- with the answer to it, the events still fit
-  pub answer-fits : {x : Answer} → x ≡ answerOf (p .words) rec (length lent) → used ≤ length (p .buffer) → 16 * counted (p .tally) x i .events ≤ length (p .buffer)
+  pub answer-fits : {x : Answer} → x ≡ answerOf (p .words) rec (length lent) → used ≤ length (p .buffer)
+      → 16 * counted (p .tally) x i .events ≤ length (p .buffer)
   unfolding onward
   answer-fits e h = rw (e, lent-all) (onward-fits h)
 
@@ -100,8 +101,10 @@ module _ (p : Progress) (i : ℕ) (rec : List ℕ) where
 
   -- after a scan that was lent it
   pub onward-is : {t : Tally} {x : Answer} {states marks ys : List ℕ} → t ≡ counted (p .tally) x i → x ≡ answerOf (p .words) rec (length lent)
-      → states ≡ scannedWords (p .words) rec (length lent) .states → marks ≡ scannedWords (p .words) rec (length lent) .marks → ys ≡ bufferOf (p .words) rec lent
-      → record { words = wordsIn (p .words .settings) states marks; tally = t; buffer = usedOf p ++ (ys ++ drop (length (p .buffer) - used) (leftOf p)) } ≡ onward p i rec
+      → states ≡ scannedWords (p .words) rec (length lent) .states → marks ≡ scannedWords (p .words) rec (length lent) .marks
+      → ys ≡ bufferOf (p .words) rec lent
+      → record { words = wordsIn (p .words .settings) states marks; tally = t; buffer = usedOf p ++ (ys ++ drop (length (p .buffer) - used) (leftOf p)) }
+      ≡ onward p i rec
   onward-is e a s m o = λ j. record { words = onward-words s m j; tally = onward-tally e a j; buffer = onward-buffer o j }
 
   onward-alike : Alike (onward p i rec .words) (p .words)
@@ -201,7 +204,8 @@ module _ {w : Words} {bytes out : List ℕ} {size : ℕ} {p : Progress} {i at : 
   going-next {e} l h n =
       let here : at ≡ size * i = omega (arith, g .begins) in
       let next : size * (i + 1) ≡ size * i + size = ap (λ (n : ℕ). size * n) (add-one i) ∙ mul-suc size i in
-      let rec : take (e - at) (drop at bytes) ≡ driveRecord (sizeFor w) bytes i = rw here (record-here size bytes least i e (omega arith) (omega arith)) ∙ ap (λ (n : ℕ). driveRecord n bytes i) (g .sized) in
+      let rec : take (e - at) (drop at bytes) ≡ driveRecord (sizeFor w) bytes i =
+      rw here (record-here size bytes least i e (omega arith) (omega arith)) ∙ ap (λ (n : ℕ). driveRecord n bytes i) (g .sized) in
       record {
         sized = g .sized;
         begins = omega (arith, least);
@@ -211,5 +215,6 @@ module _ {w : Words} {bytes out : List ℕ} {size : ℕ} {p : Progress} {i at : 
 
   pub going-end : length bytes ≤ at → p ≡ replayOf w bytes out
   going-end h =
-      let n : i ≡ recordsIn (sizeFor w) bytes = all-passed size bytes least i (omega (arith, g .begins)) (g .begun) ∙ ap (λ (n : ℕ). recordsIn n bytes) (g .sized) in
+      let n : i ≡ recordsIn (sizeFor w) bytes =
+      all-passed size bytes least i (omega (arith, g .begins)) (g .begun) ∙ ap (λ (n : ℕ). recordsIn n bytes) (g .sized) in
       g .so-far ∙ ap (progressAfter w bytes out) n

@@ -122,10 +122,14 @@ fn run(
     out: &mut [u8],
 ) -> Tally
     requires { ⌜ (length (now settings) ≡ 292) × (length (now states) ≡ 580) × (length (now marks) ≡ 900) ⌝ }
-    ensures { λ r. ⌜ r ≡ replayOf (wordsIn (now (settings .entry)) (now (states .entry)) (now (marks .entry))) (now (bytes .entry)) (now (out .entry)) .tally ⌝ }
-    ensures { λ _. ⌜ now (states .exit) ≡ replayOf (wordsIn (now (settings .entry)) (now (states .entry)) (now (marks .entry))) (now (bytes .entry)) (now (out .entry)) .words .states ⌝ }
-    ensures { λ _. ⌜ now (marks .exit) ≡ replayOf (wordsIn (now (settings .entry)) (now (states .entry)) (now (marks .entry))) (now (bytes .entry)) (now (out .entry)) .words .marks ⌝ }
-    ensures { λ _. ⌜ now (out .exit) ≡ replayOf (wordsIn (now (settings .entry)) (now (states .entry)) (now (marks .entry))) (now (bytes .entry)) (now (out .entry)) .buffer ⌝ }
+    ensures { λ r. ⌜ r ≡ replayOf (wordsIn (now (settings .entry)) (now (states .entry)) (now (marks .entry))) (now (bytes .entry))
+        (now (out .entry)) .tally ⌝ }
+    ensures { λ _. ⌜ now (states .exit) ≡ replayOf (wordsIn (now (settings .entry)) (now (states .entry)) (now (marks .entry))) (now (bytes .entry))
+        (now (out .entry)) .words .states ⌝ }
+    ensures { λ _. ⌜ now (marks .exit) ≡ replayOf (wordsIn (now (settings .entry)) (now (states .entry)) (now (marks .entry))) (now (bytes .entry))
+        (now (out .entry)) .words .marks ⌝ }
+    ensures { λ _. ⌜ now (out .exit) ≡ replayOf (wordsIn (now (settings .entry)) (now (states .entry)) (now (marks .entry))) (now (bytes .entry))
+        (now (out .entry)) .buffer ⌝ }
 {
     let size = record_length(
         settings[DIGITAL_COUNT] as usize,
@@ -156,9 +160,12 @@ pub fn replay(
     out: &mut [u8],
 ) -> Replayed
     ensures { λ r. ⌜ r ≡ replayedOf (wordsIn (now (settings .entry)) (now (states .entry)) (now (marks .entry))) (now (bytes .entry)) (now (out .entry)) ⌝ }
-    ensures { λ _. ⌜ now (states .exit) ≡ replayedWords (wordsIn (now (settings .entry)) (now (states .entry)) (now (marks .entry))) (now (bytes .entry)) (now (out .entry)) .states ⌝ }
-    ensures { λ _. ⌜ now (marks .exit) ≡ replayedWords (wordsIn (now (settings .entry)) (now (states .entry)) (now (marks .entry))) (now (bytes .entry)) (now (out .entry)) .marks ⌝ }
-    ensures { λ _. ⌜ now (out .exit) ≡ replayedBuffer (wordsIn (now (settings .entry)) (now (states .entry)) (now (marks .entry))) (now (bytes .entry)) (now (out .entry)) ⌝ }
+    ensures { λ _. ⌜ now (states .exit) ≡ replayedWords (wordsIn (now (settings .entry)) (now (states .entry)) (now (marks .entry)))
+        (now (bytes .entry)) (now (out .entry)) .states ⌝ }
+    ensures { λ _. ⌜ now (marks .exit) ≡ replayedWords (wordsIn (now (settings .entry)) (now (states .entry)) (now (marks .entry)))
+        (now (bytes .entry)) (now (out .entry)) .marks ⌝ }
+    ensures { λ _. ⌜ now (out .exit) ≡ replayedBuffer (wordsIn (now (settings .entry)) (now (states .entry)) (now (marks .entry)))
+        (now (bytes .entry)) (now (out .entry)) ⌝ }
 {
     let reply = fit(settings, states, marks);
     match reply {

@@ -97,14 +97,16 @@ module _ (w : Words) (rec : List ℕ) (accepted : checkOf (bankIn w) rec ≡ Acc
       let s = state-after n (omega arith) in
       let e = event-after n (omega arith) in
       let p : suc n ≡ n + 1 = omega arith in
-      (λ i. events-to n (omega arith) i ++ alarmEvents (p i) (a i) (s i) (e i) (timeOf rec)) ∙ ap (λ (q : ℕ). loggedFrom w rec 0 n ++ eventsOn w rec q) (sym (zero-add n))
+      (λ i. events-to n (omega arith) i ++ alarmEvents (p i) (a i) (s i) (e i) (timeOf rec))
+      ∙ ap (λ (q : ℕ). loggedFrom w rec 0 n ++ eventsOn w rec q) (sym (zero-add n))
 
   pub events-are : eventsIn (bankIn w) rec ≡ loggedFrom w rec 0 count
   unfolding bankIn settingsIn
   events-are = events-to count (omega arith)
 
   marks-to : (n : ℕ) → n ≤ count
-      → markAlarms (bankIn w .settings .alarms) (startsAfter (bankIn w) rec) (planFor (bankIn w) rec .events) (timeOf rec) n (bankIn w .marks) ≡ markedFrom w rec 0 n
+      → markAlarms (bankIn w .settings .alarms) (startsAfter (bankIn w) rec) (planFor (bankIn w) rec .events) (timeOf rec) n (bankIn w .marks)
+      ≡ markedFrom w rec 0 n
   unfolding markAlarms markedFrom bankIn
   marks-to zero h = refl
   marks-to (suc n) h =
@@ -130,8 +132,12 @@ module _ (w : Words) (rec : List ℕ) (accepted : checkOf (bankIn w) rec ≡ Acc
       state-below (steppedFrom w rec 0 n) (stateAt (0 + n)) (stateWords (stepOn w rec (0 + n) .state)) (stateAt p) (omega arith)
       ∙ stepped-state long n p (omega arith) l)
     where
-      stored : (n : ℕ) → suc n ≤ count → stateIn (sets (steppedFrom w rec 0 n) (stateAt (0 + n)) (stateWords (stepOn w rec (0 + n) .state))) (stateAt (0 + n)) ≡ stepOn w rec (0 + n) .state
-      stored n h = put-back (steppedFrom w rec 0 n) (stateAt (0 + n)) (stepOn w rec (0 + n) .state) (omega (arith, most, stepped-length w rec 0 n, long)) (small-on w rec (0 + n))
+      stored : (n : ℕ) → suc n ≤ count
+          → stateIn (sets (steppedFrom w rec 0 n) (stateAt (0 + n)) (stateWords (stepOn w rec (0 + n) .state))) (stateAt (0 + n))
+          ≡ stepOn w rec (0 + n) .state
+      stored n h =
+          put-back (steppedFrom w rec 0 n) (stateAt (0 + n)) (stepOn w rec (0 + n) .state) (omega (arith, most, stepped-length w rec 0 n, long))
+          (small-on w rec (0 + n))
 
   module _ (long : length (w .states) ≡ 580) where
     abbrev stepped : List ℕ
@@ -147,7 +153,8 @@ module _ (w : Words) (rec : List ℕ) (accepted : checkOf (bankIn w) rec ≡ Acc
 
     above : (p : ℕ) → count ≤ p → getD (planFor (bankIn w) rec .states) p freshState ≡ getD (bankIn w .states) p freshState
     unfolding planOf bankIn settingsIn
-    above p h = placed-above (λ q. stepAt rec digital (bankIn w .settings .alarms) (bankIn w .states) (timeOf rec) q .state) count p (bankIn w .states) freshState h
+    above p h =
+        placed-above (λ q. stepAt rec digital (bankIn w .settings .alarms) (bankIn w .states) (timeOf rec) q .state) count p (bankIn w .states) freshState h
 
     planned : (p : ℕ) → p < 24 → (t : Bool) → ltb p count ≡ t → stateOf p ≡ getD (planFor (bankIn w) rec .states) p freshState
     planned p h true e = let l = ltb-true p count e in behind p ∙ stepped-state long count p (omega arith) l ∙ sym (state-after p l)
@@ -165,7 +172,10 @@ module _ (w : Words) (rec : List ℕ) (accepted : checkOf (bankIn w) rec ≡ Acc
     states-are =
         let n = length-placed stateOf 24 (replicate 24 freshState) ∙ length-replicate 24 freshState in
         ext-getD freshState (placed stateOf 24 (replicate 24 freshState)) (planFor (bankIn w) rec .states) (n ∙ sym plan-long)
-        (λ p h. let l : p < 24 = omega (arith, n) in placed-below stateOf 24 p (replicate 24 freshState) freshState l (omega (arith, length-replicate 24 freshState)) ∙ planned p l (ltb p count) refl)
+        (λ p h.
+        let l : p < 24 = omega (arith, n) in
+        placed-below stateOf 24 p (replicate 24 freshState) freshState l (omega (arith, length-replicate 24 freshState))
+        ∙ planned p l (ltb p count) refl)
 
     time-is : getD (wordsAfter w rec .states) 0 0 ≡ timeOf rec
     unfolding wordsAfter

@@ -54,7 +54,13 @@ module _ (b : Bank) (rec : List ℕ) where
       go : (x : Reply) (t : Bool) → tooShort b rec (length out) ≡ t → length (onReply x (cond t out (log ++ drop (length log) out)) (λ r. out)) ≡ length out
       go Accepted true e = refl
       go Accepted false e =
-          omega (arith, length-append log (drop (length log) out), length-drop (length log) out, log-length (eventsIn b rec), ltb-false (length out) (16 * length (eventsIn b rec)) e)
+          omega (
+            arith,
+            length-append log (drop (length log) out),
+            length-drop (length log) out,
+            log-length (eventsIn b rec),
+            ltb-false (length out) (16 * length (eventsIn b rec)) e,
+          )
       go (RefusedBy r) t e = refl
 
 -- ---- on words

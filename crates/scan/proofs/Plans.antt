@@ -47,7 +47,8 @@ module _ (rec : List ℕ) (digital : ℕ) (alarms : List Alarm) (states : List S
 
   pub word-small : (n i : ℕ) → n ≤ 24 → i < n → getD (planOf rec digital n alarms states time .events) i 0 < 2 ^ 24
   unfolding stepPart
-  word-small n i m h = rw (word-at n i m h) (entry-word (entryAt (formAt digital i) rec (offsetOf digital i) (i + 1)) (getD alarms i blank) (getD states i freshState) time)
+  word-small n i m h =
+      rw (word-at n i m h) (entry-word (entryAt (formAt digital i) rec (offsetOf digital i) (i + 1)) (getD alarms i blank) (getD states i freshState) time)
 
 -- ---- the events of all alarms
 

@@ -51,10 +51,14 @@ fn scan_short(
     analog: usize,
 ) -> Answer
     requires { ⌜ Ready (wordsIn (now settings) (now states) (now marks)) (now bytes) digital analog ⌝ }
-    ensures { λ r. ⌜ r ≡ checkedAnswer (wordsIn (now (settings .entry)) (now (states .entry)) (now (marks .entry))) (now (bytes .entry)) (length (now (out .entry))) ⌝ }
-    ensures { λ _. ⌜ now (states .exit) ≡ checkedWords (wordsIn (now (settings .entry)) (now (states .entry)) (now (marks .entry))) (now (bytes .entry)) (length (now (out .entry))) .states ⌝ }
-    ensures { λ _. ⌜ now (marks .exit) ≡ checkedWords (wordsIn (now (settings .entry)) (now (states .entry)) (now (marks .entry))) (now (bytes .entry)) (length (now (out .entry))) .marks ⌝ }
-    ensures { λ _. ⌜ now (out .exit) ≡ checkedOut (wordsIn (now (settings .entry)) (now (states .entry)) (now (marks .entry))) (now (bytes .entry)) (now (out .entry)) ⌝ }
+    ensures { λ r. ⌜ r ≡ checkedAnswer (wordsIn (now (settings .entry)) (now (states .entry)) (now (marks .entry))) (now (bytes .entry))
+        (length (now (out .entry))) ⌝ }
+    ensures { λ _. ⌜ now (states .exit) ≡ checkedWords (wordsIn (now (settings .entry)) (now (states .entry)) (now (marks .entry)))
+        (now (bytes .entry)) (length (now (out .entry))) .states ⌝ }
+    ensures { λ _. ⌜ now (marks .exit) ≡ checkedWords (wordsIn (now (settings .entry)) (now (states .entry)) (now (marks .entry)))
+        (now (bytes .entry)) (length (now (out .entry))) .marks ⌝ }
+    ensures { λ _. ⌜ now (out .exit) ≡ checkedOut (wordsIn (now (settings .entry)) (now (states .entry)) (now (marks .entry))) (now (bytes .entry))
+        (now (out .entry)) ⌝ }
 {
     let mut stepped = [0; STATES_WORDS];
     copy_words(states, &mut stepped);
@@ -88,10 +92,14 @@ fn scan_bank(
     out: &mut [u8],
 ) -> Answer
     requires { ⌜ (length (now settings) ≡ 292) × (length (now states) ≡ 580) × (length (now marks) ≡ 900) ⌝ }
-    ensures { λ r. ⌜ r ≡ bankAnswer (wordsIn (now (settings .entry)) (now (states .entry)) (now (marks .entry))) (now (bytes .entry)) (length (now (out .entry))) ⌝ }
-    ensures { λ _. ⌜ now (states .exit) ≡ bankWords (wordsIn (now (settings .entry)) (now (states .entry)) (now (marks .entry))) (now (bytes .entry)) (length (now (out .entry))) .states ⌝ }
-    ensures { λ _. ⌜ now (marks .exit) ≡ bankWords (wordsIn (now (settings .entry)) (now (states .entry)) (now (marks .entry))) (now (bytes .entry)) (length (now (out .entry))) .marks ⌝ }
-    ensures { λ _. ⌜ now (out .exit) ≡ eventBuffer (bankIn (wordsIn (now (settings .entry)) (now (states .entry)) (now (marks .entry)))) (now (bytes .entry)) (now (out .entry)) ⌝ }
+    ensures { λ r. ⌜ r ≡ bankAnswer (wordsIn (now (settings .entry)) (now (states .entry)) (now (marks .entry))) (now (bytes .entry))
+        (length (now (out .entry))) ⌝ }
+    ensures { λ _. ⌜ now (states .exit) ≡ bankWords (wordsIn (now (settings .entry)) (now (states .entry)) (now (marks .entry))) (now (bytes .entry))
+        (length (now (out .entry))) .states ⌝ }
+    ensures { λ _. ⌜ now (marks .exit) ≡ bankWords (wordsIn (now (settings .entry)) (now (states .entry)) (now (marks .entry))) (now (bytes .entry))
+        (length (now (out .entry))) .marks ⌝ }
+    ensures { λ _. ⌜ now (out .exit) ≡ eventBuffer (bankIn (wordsIn (now (settings .entry)) (now (states .entry)) (now (marks .entry))))
+        (now (bytes .entry)) (now (out .entry)) ⌝ }
 {
     let digital = settings[DIGITAL_COUNT] as usize;
     let analog = settings[ANALOG_COUNT] as usize;
@@ -114,10 +122,14 @@ pub fn scan(
     bytes: &[u8],
     out: &mut [u8],
 ) -> Answer
-    ensures { λ r. ⌜ r ≡ answerOf (wordsIn (now (settings .entry)) (now (states .entry)) (now (marks .entry))) (now (bytes .entry)) (length (now (out .entry))) ⌝ }
-    ensures { λ _. ⌜ now (states .exit) ≡ scannedWords (wordsIn (now (settings .entry)) (now (states .entry)) (now (marks .entry))) (now (bytes .entry)) (length (now (out .entry))) .states ⌝ }
-    ensures { λ _. ⌜ now (marks .exit) ≡ scannedWords (wordsIn (now (settings .entry)) (now (states .entry)) (now (marks .entry))) (now (bytes .entry)) (length (now (out .entry))) .marks ⌝ }
-    ensures { λ _. ⌜ now (out .exit) ≡ bufferOf (wordsIn (now (settings .entry)) (now (states .entry)) (now (marks .entry))) (now (bytes .entry)) (now (out .entry)) ⌝ }
+    ensures { λ r. ⌜ r ≡ answerOf (wordsIn (now (settings .entry)) (now (states .entry)) (now (marks .entry))) (now (bytes .entry))
+        (length (now (out .entry))) ⌝ }
+    ensures { λ _. ⌜ now (states .exit) ≡ scannedWords (wordsIn (now (settings .entry)) (now (states .entry)) (now (marks .entry)))
+        (now (bytes .entry)) (length (now (out .entry))) .states ⌝ }
+    ensures { λ _. ⌜ now (marks .exit) ≡ scannedWords (wordsIn (now (settings .entry)) (now (states .entry)) (now (marks .entry)))
+        (now (bytes .entry)) (length (now (out .entry))) .marks ⌝ }
+    ensures { λ _. ⌜ now (out .exit) ≡ bufferOf (wordsIn (now (settings .entry)) (now (states .entry)) (now (marks .entry))) (now (bytes .entry))
+        (now (out .entry)) ⌝ }
 {
     let reply = fit(settings, states, marks);
     match reply {

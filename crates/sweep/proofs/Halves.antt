@@ -20,7 +20,8 @@ use Rattle.step.specs.Internal.State.{State, Stepped, stateIn, stateWords, stat
 use Rattle.step.specs.Internal.Step.{stepOf}
 use Rattle.bank.specs.Lent.{Words}
 use Rattle.bank.specs.Internal.Words.{wordsIn}
-use Rattle.sweep.specs.Internal.Sweep.{alarmEvents, alarmMarks, HaveForm, placeStep, partAt, stepOn, eventsOn, steppedFrom, markedFrom, loggedFrom, logFrom}
+use Rattle.sweep.specs.Internal.Sweep.{alarmEvents, alarmMarks, HaveForm, placeStep, partAt, stepOn, eventsOn, steppedFrom, markedFrom, loggedFrom}
+use Rattle.sweep.specs.Internal.Sweep.{logFrom}
 use Rattle.sweep.proofs.Loops.{not-yet, stepped-length}
 
 -- ---- the forms of the places
@@ -41,7 +42,8 @@ module _ (w : Words) (rec : List ℕ) (d : ℕ) where
   unfolding stepOn placeStep
   later-step p h =
       let form = formAt (digitalIn (w .settings)) p in
-      ap (λ (s : State). stepOf (alarmOn (w .settings) p) s (readingAt form rec (partAt w rec p)) (wordAt form rec (partAt w rec p)) (timeOf rec)) (not-yet w rec 0 d p (omega arith))
+      ap (λ (s : State). stepOf (alarmOn (w .settings) p) s (readingAt form rec (partAt w rec p)) (wordAt form rec (partAt w rec p)) (timeOf rec))
+      (not-yet w rec 0 d p (omega arith))
 
   later-events : (p : ℕ) → d ≤ p → eventsOn half rec p ≡ eventsOn w rec p
   unfolding eventsOn
@@ -51,7 +53,8 @@ module _ (w : Words) (rec : List ℕ) (d : ℕ) where
   unfolding steppedFrom
   states-whole zero = ap (steppedFrom w rec 0) (sym (add-zero d))
   states-whole (suc n) =
-      (λ i. sets (states-whole n i) (stateAt (sym (zero-add (d + n)) i)) (stateWords ((later-step (d + n) (omega arith) ∙ ap (stepOn w rec) (sym (zero-add (d + n)))) i .state)))
+      let step = later-step (d + n) (omega arith) ∙ ap (stepOn w rec) (sym (zero-add (d + n))) in
+      (λ i. sets (states-whole n i) (stateAt (sym (zero-add (d + n)) i)) (stateWords (step i .state)))
       ∙ ap (steppedFrom w rec 0) (sym (add-suc d n))
 
   pub marks-whole : (n : ℕ) → markedFrom half rec d n ≡ markedFrom w rec 0 (d + n)
@@ -82,5 +85,6 @@ module _ (w : Words) (rec : List ℕ) (d : ℕ) where
   pub length-whole : (n : ℕ) → length (logFrom w rec 0 d) + length (logFrom half rec d n) ≡ length (logFrom w rec 0 (d + n))
   length-whole n = sym (length-append (logFrom w rec 0 d) (logFrom half rec d n)) ∙ ap length (log-whole n)
 
-  pub out-whole : (n : ℕ) (out : List ℕ) → sets (sets out 0 (logFrom w rec 0 d)) (0 + length (logFrom w rec 0 d)) (logFrom half rec d n) ≡ sets out 0 (logFrom w rec 0 (d + n))
+  pub out-whole : (n : ℕ) (out : List ℕ)
+      → sets (sets out 0 (logFrom w rec 0 d)) (0 + length (logFrom w rec 0 d)) (logFrom half rec d n) ≡ sets out 0 (logFrom w rec 0 (d + n))
   out-whole n out = sets-append out 0 (logFrom w rec 0 d) (logFrom half rec d n) ∙ ap (sets out 0) (log-whole n)

@@ -20,7 +20,8 @@ use Rattle.step.specs.Internal.Step.{stepOf}
 use Rattle.step.proofs.Back.{eleven, state-above}
 use Rattle.marks.proofs.Lengths.{length-alarm}
 use Rattle.bank.specs.Lent.{Words}
-use Rattle.sweep.specs.Internal.Sweep.{alarmEvents, alarmMarks, placeStep, placeStates, placeLog, placeMarks, partAt, stepOn, eventsOn, steppedFrom, markedFrom, loggedFrom, logFrom}
+use Rattle.sweep.specs.Internal.Sweep.{alarmEvents, alarmMarks, placeStep, placeStates, placeLog, placeMarks, partAt, stepOn, eventsOn, steppedFrom}
+use Rattle.sweep.specs.Internal.Sweep.{markedFrom, loggedFrom, logFrom}
 
 module _ (w : Words) (rec : List ℕ) where
   -- ---- the alarms behind those that were stepped are as they were
@@ -36,7 +37,8 @@ module _ (w : Words) (rec : List ℕ) where
   pub stepped-length : (first n : ℕ) → length (steppedFrom w rec first n) ≡ length (w .states)
   unfolding steppedFrom
   stepped-length first zero = refl
-  stepped-length first (suc n) = length-sets (steppedFrom w rec first n) (stateAt (first + n)) (stateWords (stepOn w rec (first + n) .state)) ∙ stepped-length first n
+  stepped-length first (suc n) =
+      length-sets (steppedFrom w rec first n) (stateAt (first + n)) (stateWords (stepOn w rec (first + n) .state)) ∙ stepped-length first n
 
   pub marked-length : (first n : ℕ) → length (markedFrom w rec first n) ≡ length (w .marks)
   unfolding markedFrom

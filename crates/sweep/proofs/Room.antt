@@ -35,7 +35,9 @@ mostOf Analog = 15
 
 module _ (settings states rec : List ℕ) (at p time : ℕ) where
   place-most : (form : Form)
-      → length (alarmEvents (p + 1) (alarmIn form settings (alarmAt p)) (placeStep form settings states rec at p time .state) (placeStep form settings states rec at p time .events) time)
+      → length
+      (alarmEvents (p + 1) (alarmIn form settings (alarmAt p)) (placeStep form settings states rec at p time .state)
+      (placeStep form settings states rec at p time .events) time)
       ≤ mostOf form
   unfolding placeStep stepKind alarmIn
   place-most Digital =
@@ -78,7 +80,8 @@ module _ (w : Words) (rec : List ℕ) where
       rw e (omega (arith, length-next w rec first n, log-length (eventsOn w rec (first + n)), form-most first n form (λ p l q. h p l (omega arith)), m, k))
 
 -- 80 bytes for a digital alarm, 240 for an analog one
-pub room-most : (w : Words) (rec : List ℕ) (digital analog : ℕ) → digital ≡ digitalIn (w .settings) → length (logFrom w rec 0 (digital + analog)) ≤ 80 * digital + 240 * analog
+pub room-most : (w : Words) (rec : List ℕ) (digital analog : ℕ) → digital ≡ digitalIn (w .settings)
+    → length (logFrom w rec 0 (digital + analog)) ≤ 80 * digital + 240 * analog
 room-most w rec digital analog d =
     let first = form-most w rec 0 digital Digital (rw (← d) (digital-places digital)) in
     let second = form-most (half w rec digital) rec digital analog Analog (rw (← d) (analog-places digital analog)) in

@@ -48,7 +48,8 @@ module _ (settings states rec : List ℕ) (at p time : ℕ) where
     unfolding placeStates
     back = put-back states (stateAt p) (placeStep form settings states rec at p time .state) (omega arith) (small form)
 
-    module _ {kept : List ℕ} {word : ℕ} (k : kept ≡ placeStates form settings states rec at p time) (e : word ≡ placeStep form settings states rec at p time .events) where
+    module _ {kept : List ℕ} {word : ℕ} (k : kept ≡ placeStates form settings states rec at p time)
+        (e : word ≡ placeStep form settings states rec at p time .events) where
       kept-back : stateIn kept (stateAt p) ≡ placeStep form settings states rec at p time .state
       kept-back = ap (λ (ws : List ℕ). stateIn ws (stateAt p)) k ∙ back
 

@@ -32,10 +32,14 @@ fn scan_form(
     requires { ⌜ (time ≡ timeOf (now bytes)) × (begin ≡ offsetOf (digitalIn (now settings)) first) × (begin + entrySize form * count ≤ length (now bytes)) ⌝ }
     requires { ⌜ HaveForm (digitalIn (now settings)) first count form ⌝ }
     requires { ⌜ start + length (logFrom (wordsIn (now settings) (now states) (now marks)) (now bytes) first count) ≤ length (now out) ⌝ }
-    ensures { λ r. ⌜ r ≡ start + length (logFrom (wordsIn (now (settings .entry)) (now (states .entry)) (now (marks .entry))) (now (bytes .entry)) first count) ⌝ }
-    ensures { λ _. ⌜ now (states .exit) ≡ steppedFrom (wordsIn (now (settings .entry)) (now (states .entry)) (now (marks .entry))) (now (bytes .entry)) first count ⌝ }
-    ensures { λ _. ⌜ now (marks .exit) ≡ markedFrom (wordsIn (now (settings .entry)) (now (states .entry)) (now (marks .entry))) (now (bytes .entry)) first count ⌝ }
-    ensures { λ _. ⌜ now (out .exit) ≡ sets (now (out .entry)) start (logFrom (wordsIn (now (settings .entry)) (now (states .entry)) (now (marks .entry))) (now (bytes .entry)) first count) ⌝ }
+    ensures { λ r. ⌜ r ≡ start + length
+        (logFrom (wordsIn (now (settings .entry)) (now (states .entry)) (now (marks .entry))) (now (bytes .entry)) first count) ⌝ }
+    ensures { λ _. ⌜ now (states .exit) ≡ steppedFrom (wordsIn (now (settings .entry)) (now (states .entry)) (now (marks .entry)))
+        (now (bytes .entry)) first count ⌝ }
+    ensures { λ _. ⌜ now (marks .exit) ≡ markedFrom (wordsIn (now (settings .entry)) (now (states .entry)) (now (marks .entry)))
+        (now (bytes .entry)) first count ⌝ }
+    ensures { λ _. ⌜ now (out .exit) ≡ sets (now (out .entry)) start
+        (logFrom (wordsIn (now (settings .entry)) (now (states .entry)) (now (marks .entry))) (now (bytes .entry)) first count) ⌝ }
 {
     let mut n = 0;
     let mut at = begin;
@@ -73,9 +77,11 @@ pub fn scan_alarms(
     requires { ⌜ Ready (wordsIn (now settings) (now states) (now marks)) (now bytes) digital analog ⌝ }
     requires { ⌜ 80 * digital + 240 * analog ≤ length (now out) ⌝ }
     ensures { λ r. ⌜ r ≡ length (logAfter (wordsIn (now (settings .entry)) (now (states .entry)) (now (marks .entry))) (now (bytes .entry))) ⌝ }
-    ensures { λ _. ⌜ now (states .exit) ≡ wordsAfter (wordsIn (now (settings .entry)) (now (states .entry)) (now (marks .entry))) (now (bytes .entry)) .states ⌝ }
+    ensures { λ _. ⌜ now (states .exit) ≡ wordsAfter (wordsIn (now (settings .entry)) (now (states .entry)) (now (marks .entry)))
+        (now (bytes .entry)) .states ⌝ }
     ensures { λ _. ⌜ now (marks .exit) ≡ wordsAfter (wordsIn (now (settings .entry)) (now (states .entry)) (now (marks .entry))) (now (bytes .entry)) .marks ⌝ }
-    ensures { λ _. ⌜ now (out .exit) ≡ sets (now (out .entry)) 0 (logAfter (wordsIn (now (settings .entry)) (now (states .entry)) (now (marks .entry))) (now (bytes .entry))) ⌝ }
+    ensures { λ _. ⌜ now (out .exit) ≡ sets (now (out .entry)) 0
+        (logAfter (wordsIn (now (settings .entry)) (now (states .entry)) (now (marks .entry))) (now (bytes .entry))) ⌝ }
 {
     let time = get_u64(bytes, 0);
     let half = scan_form(

@@ -114,11 +114,14 @@ pub fn step_place(
     time: u64,
 ) -> usize
     requires { ⌜ (place < 24) × (length (now settings) ≡ 292) × (length (now states) ≡ 580) × (length (now marks) ≡ 900) ⌝ }
-    requires { ⌜ (at + entrySize form ≤ length (now bytes)) × (used + length (placeLog form (now settings) (now states) (now bytes) at place time) ≤ length (now out)) ⌝ }
+    requires { ⌜ (at + entrySize form ≤ length (now bytes)) ×
+        (used + length (placeLog form (now settings) (now states) (now bytes) at place time) ≤ length (now out)) ⌝ }
     ensures { λ r. ⌜ r ≡ used + length (placeLog form (now (settings .entry)) (now (states .entry)) (now (bytes .entry)) at place time) ⌝ }
     ensures { λ _. ⌜ now (states .exit) ≡ placeStates form (now (settings .entry)) (now (states .entry)) (now (bytes .entry)) at place time ⌝ }
-    ensures { λ _. ⌜ now (marks .exit) ≡ placeMarks form (now (settings .entry)) (now (states .entry)) (now (bytes .entry)) at place time (now (marks .entry)) ⌝ }
-    ensures { λ _. ⌜ now (out .exit) ≡ sets (now (out .entry)) used (placeLog form (now (settings .entry)) (now (states .entry)) (now (bytes .entry)) at place time) ⌝ }
+    ensures { λ _. ⌜ now (marks .exit) ≡ placeMarks form (now (settings .entry)) (now (states .entry)) (now (bytes .entry)) at place time
+        (now (marks .entry)) ⌝ }
+    ensures { λ _. ⌜ now (out .exit) ≡ sets (now (out .entry)) used
+        (placeLog form (now (settings .entry)) (now (states .entry)) (now (bytes .entry)) at place time) ⌝ }
 {
     let events = step_form(settings, states, bytes, at, form, place, time);
     log_place(

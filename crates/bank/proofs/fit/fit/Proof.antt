@@ -14,18 +14,32 @@ returns-2 : tie.Need-returns-2
 unfolding fitOf
 returns-2 c =
     c .no-bank2 .ensures
-    ∙ rw (← c .before .before .before .is-block .ensures, not-false (c .before .before .before .is-block .result) (c .before .before .if1 .left), ne-eqb _ _ (c .before .if2 .taken))
+    ∙ rw (
+      ← c .before .before .before .is-block .ensures,
+      not-false (c .before .before .before .is-block .result) (c .before .before .if1 .left),
+      ne-eqb _ _ (c .before .if2 .taken),
+    )
 
 returns-3 : tie.Need-returns-3
 unfolding fitOf
 returns-3 c =
     c .no-bank3 .ensures
-    ∙ rw (← c .before .before .before .before .is-block .ensures, not-false (c .before .before .before .before .is-block .result) (c .before .before .before .if1 .left), eq-eqb _ _ (c .before .before .if2 .left), ne-eqb _ _ (c .before .if3 .taken))
+    ∙ rw (
+      ← c .before .before .before .before .is-block .ensures,
+      not-false (c .before .before .before .before .is-block .result) (c .before .before .before .if1 .left),
+      eq-eqb _ _ (c .before .before .if2 .left),
+      ne-eqb _ _ (c .before .if3 .taken),
+    )
 
 returns-4 : tie.Need-returns-4
 unfolding fitOf
 returns-4 c =
-    rw (← c .before .before .before .is-block .ensures, not-false (c .before .before .before .is-block .result) (c .before .before .if1 .left), eq-eqb _ _ (c .before .if2 .left), eq-eqb _ _ (c .if3 .left))
+    rw (
+      ← c .before .before .before .is-block .ensures,
+      not-false (c .before .before .before .is-block .result) (c .before .before .if1 .left),
+      eq-eqb _ _ (c .before .if2 .left),
+      eq-eqb _ _ (c .if3 .left),
+    )
 
 pub fit-spec : {M : Type 1} → statement M
 fit-spec =

@@ -10,7 +10,8 @@ use Rattle.bank.proofs.load.load_blocks.Tie as tie
 
 returns : tie.Need-returns
 returns c =
-    let start = c .before .before .before .before .before .before .before .before .before .before .before .before .before .before .before .before .before .before in
+    let start =
+    c .before .before .before .before .before .before .before .before .before .before .before .before .before .before .before .before .before .before in
     let read = c .before .before .before .before .before .before .before .before .before .before .before .before .before .read .ensures in
     let put = c .before .before .before .before .before .before .before .before .before .before .put-settings .ensures in
     let one = put .0 ∙ ap (λ (x : Loaded). settingsWords (x .settings)) read in

@@ -20,8 +20,10 @@ put-record-requires c κs =
 returns : tie.Need-returns
 returns c =
     let a = c .before .before .before .before .before .before .args in
-    let e = bit-set (a .time) (a .head) (a .word) (c .before .before .before .before .if1 .taken) in
-    (ap (λ (n : ℕ). a .at + n) (sym (ap length e ∙ length-record (a .time) (a .head))), c .before .before .put-record .ensures ∙ ap (sets (now (a .out)) (a .at)) (sym e))
+    let e = bit-set (a .time) (a .head) (a .word) (c .before .before .before .before .if1 .taken) in (
+      ap (λ (n : ℕ). a .at + n) (sym (ap length e ∙ length-record (a .time) (a .head))),
+      c .before .before .put-record .ensures ∙ ap (sets (now (a .out)) (a .at)) (sym e),
+    )
 
 returns-2 : tie.Need-returns-2
 returns-2 c =

@@ -22,7 +22,10 @@ put-three-requires : tie.Need-put-three-requires
 put-three-requires c κs =
     let a = c .before .before .before .before .before .before .before .before .args in
     let h = c .before .head .ensures in
-    let e = condition-records (a .number) (a .form) (now (a .settings)) (a .from) (a .suppressed) (a .time) (a .place) (a .word) (search needs) (h .0) (h .1 .1) (h .1 .2) (c .before .before .condition-at .ensures) (c .before .before .before .acting-severity .ensures) (c .before .before .before .before .severity-at .ensures) in
+    let e =
+    condition-records (a .number) (a .form) (now (a .settings)) (a .from) (a .suppressed) (a .time) (a .place) (a .word) (search needs) (h .0) (h .1 .1)
+    (h .1 .2) (c .before .before .condition-at .ensures) (c .before .before .before .acting-severity .ensures)
+    (c .before .before .before .before .severity-at .ensures) in
     omega (arith, ap length e)
 
 returns-2 : tie.Need-returns-2
@@ -30,7 +33,11 @@ returns-2 c =
     let a = c .before .before .before .before .before .before .before .before .before .before .before .args in
     let h = c .before .before .before .before .head .ensures in
     let p = c .before .before .put-three .ensures in
-    let e = condition-records (a .number) (a .form) (now (a .settings)) (a .from) (a .suppressed) (a .time) (a .place) (a .word) (search needs) (h .0) (h .1 .1) (h .1 .2) (c .before .before .before .before .before .condition-at .ensures) (c .before .before .before .before .before .before .acting-severity .ensures) (c .before .before .before .before .before .before .before .severity-at .ensures) in
+    let e =
+    condition-records (a .number) (a .form) (now (a .settings)) (a .from) (a .suppressed) (a .time) (a .place) (a .word) (search needs) (h .0) (h .1 .1)
+    (h .1 .2) (c .before .before .before .before .before .condition-at .ensures)
+    (c .before .before .before .before .before .before .acting-severity .ensures)
+    (c .before .before .before .before .before .before .before .severity-at .ensures) in
     (omega (arith, ap length e), p .1 ∙ ap (sets (now (a .out)) (a .at)) (sym e))
 
 pub put-condition-spec : {M : Type 1} → statement M

@@ -1,4 +1,5 @@
--- `event::write::put_conditions` meets its contract: the invariant: writing the conditions from the place on gives what writing all gives, and room is left for them. The measure is the places left. Assumes nothing.
+-- `event::write::put_conditions` meets its contract: the invariant: writing the conditions from the place on gives what writing all gives,
+-- and room is left for them. The measure is the places left. Assumes nothing.
 use borrow.Author.Needs.{needs}
 use borrow.Author.Tests.{ltb-true}
 use mathlib.Core.Bool.{Bool, true, _&&_}
@@ -21,8 +22,10 @@ place-left n b h = ltb-true n 6 (and-true (ltb n 6) b h .0)
 abbrev Inv-loop : tie.InvT-loop
 Inv-loop out₀ start number settings from form suppressed time word rest₀ place₀ at₀ out rest place at =
     (length out ≡ length out₀)
-    × (at + length (logFrom number (kindIn form settings from) suppressed time place rest) ≡ start + length (logFrom number (kindIn form settings from) suppressed time 0 word))
-    × (sets out at (logFrom number (kindIn form settings from) suppressed time place rest) ≡ sets out₀ start (logFrom number (kindIn form settings from) suppressed time 0 word))
+    × (at + length (logFrom number (kindIn form settings from) suppressed time place rest)
+    ≡ start + length (logFrom number (kindIn form settings from) suppressed time 0 word))
+    × (sets out at (logFrom number (kindIn form settings from) suppressed time place rest)
+    ≡ sets out₀ start (logFrom number (kindIn form settings from) suppressed time 0 word))
 
 abbrev μ-loop : tie.MeasureT-loop
 μ-loop out₀ start number settings from form suppressed time word rest₀ place₀ at₀ out rest place at = 6 - place
@@ -39,10 +42,16 @@ put-condition-requires c κs =
     omega arith
 
 add-place : tie.Need-add-place Inv-loop μ-loop
-add-place c = let h = place-left (c .before .before .before .before .before .loop .place) _ (c .before .before .before .before .loop-test .taken) in search needs
+add-place c =
+    let test = c .before .before .before .before in
+    let h = place-left (test .before .loop .place) _ (test .loop-test .taken) in
+    search needs
 
 loop-less : tie.Need-loop-less Inv-loop μ-loop
-loop-less c = let h = place-left (c .before .before .before .before .before .loop .place) _ (c .before .before .before .before .loop-test .taken) in search needs
+loop-less c =
+    let test = c .before .before .before .before in
+    let h = place-left (test .before .loop .place) _ (test .loop-test .taken) in
+    search needs
 
 loop-again : tie.Need-loop-again Inv-loop μ-loop
 loop-again c =
@@ -51,8 +60,11 @@ loop-again c =
     let kind = kindIn (a .form) (now (a .settings)) (a .from) in
     let h = place-left (l .place) _ (c .before .before .before .before .loop-test .taken) in
     let e = length-next (a .number) kind (a .suppressed) (a .time) (l .place) (l .rest) h in
-    let p = c .before .before .put-condition in
-    (p .kept .0 ∙ l .inv .0, omega arith, rw (p .ensures .0, p .ensures .1) (sets-next (a .number) kind (a .suppressed) (a .time) (l .out) (l .at) (l .place) (l .rest) h ∙ l .inv .2))
+    let p = c .before .before .put-condition in (
+      p .kept .0 ∙ l .inv .0,
+      omega arith,
+      rw (p .ensures .0, p .ensures .1) (sets-next (a .number) kind (a .suppressed) (a .time) (l .out) (l .at) (l .place) (l .rest) h ∙ l .inv .2),
+    )
 
 returns : tie.Need-returns Inv-loop μ-loop
 returns c =

@@ -25,7 +25,8 @@ returns c =
     let p = c .before .before .before .before .before .before .put-whole .ensures in
     let q = c .before .before .put-conditions .ensures in
     let n = parts-length (a .number) (kindIn (a .form) (now (a .settings)) (a .at)) (a .suppressed) (a .time) (a .events) (search needs) in
-    (omega arith, parts-stores (a .number) (kindIn (a .form) (now (a .settings)) (a .at)) (a .suppressed) (a .time) (a .events) (search needs) (now (a .out)) (a .start) (p .0) (p .1) (q .1))
+    let kind = kindIn (a .form) (now (a .settings)) (a .at) in
+    (omega arith, parts-stores (a .number) kind (a .suppressed) (a .time) (a .events) (search needs) (now (a .out)) (a .start) (p .0) (p .1) (q .1))
 
 pub put-events-spec : {M : Type 1} → statement M
 put-events-spec =

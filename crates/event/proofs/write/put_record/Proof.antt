@@ -8,7 +8,8 @@ use Rattle.event.proofs.write.put_record.Tie as tie
 returns : tie.Need-returns
 returns c =
     let a = c .before .before .before .before .before .before .before .before .before .args in
-    record-stores (a .time) (now (a .out)) (a .at) (a .head) (c .before .before .before .before .before .before .put-u64 .ensures) (c .before .before .put-u642 .ensures)
+    record-stores (a .time) (now (a .out)) (a .at) (a .head) (c .before .before .before .before .before .before .put-u64 .ensures)
+    (c .before .before .put-u642 .ensures)
 
 pub put-record-spec : {M : Type 1} → statement M
 put-record-spec =

@@ -9,7 +9,9 @@ use Rattle.host_bytes.proofs.rows.put_report.Tie as tie
 returns : tie.Need-returns
 returns c =
     let a = c .before .before .before .before .before .before .before .before .before .before .before .before .args in
-    c .before .before .put-statuses .ensures ∙ rw (c .before .before .before .before .before .before .put-row .ensures, c .before .before .before .before .before .before .before .whole-row .ensures) (report-stores (a .said) (now (a .out)) (a .at))
+    c .before .before .put-statuses .ensures
+    ∙ rw (c .before .before .before .before .before .before .put-row .ensures, c .before .before .before .before .before .before .before .whole-row .ensures)
+    (report-stores (a .said) (now (a .out)) (a .at))
 
 pub put-report-spec : {M : Type 1} → statement M
 put-report-spec =

@@ -8,9 +8,15 @@ use Rattle.host_bytes.proofs.rows.put_row.Tie as tie
 
 returns : tie.Need-returns
 returns c =
-    let a = c .before .before .before .before .before .before .before .before .before .before .before .before .before .before .before .before .before .before .before .before .before .args in
+    let half = c .before .before .before .before .before .before .before .before .before .before in
+    let a = half .before .before .before .before .before .before .before .before .before .before .before .args in
     c .before .before .put-u643 .ensures
-    ∙ rw (c .before .before .before .before .before .before .put-u642 .ensures, c .before .before .before .before .before .before .before .before .before .before .put-u64 .ensures, c .before .before .before .before .before .before .before .before .before .before .before .before .before .before .put-u32 .ensures, c .before .before .before .before .before .before .before .before .before .before .before .before .before .before .before .before .before .before .put-flags .ensures)
+    ∙ rw (
+      c .before .before .before .before .before .before .put-u642 .ensures,
+      half .put-u64 .ensures,
+      half .before .before .before .before .put-u32 .ensures,
+      half .before .before .before .before .before .before .before .before .put-flags .ensures,
+    )
     (row-stores (a .row) (now (a .out)) (a .at))
 
 pub put-row-spec : {M : Type 1} → statement M

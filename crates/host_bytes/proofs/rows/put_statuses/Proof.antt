@@ -1,4 +1,5 @@
--- `host_bytes::rows::put_statuses` meets its contract: the invariant: the conditions so far stand behind the start. The measure is the conditions left. Assumes nothing.
+-- `host_bytes::rows::put_statuses` meets its contract: the invariant: the conditions so far stand behind the start. The measure is the
+-- conditions left. Assumes nothing.
 use borrow.Author.Needs.{needs}
 use mathlib.Core.Path.{_≡_, refl, sym, ap, _∙_}
 use Prim.Native.Nat.{ℕ, _+_, _-_, _*_, _≤_}

@@ -8,9 +8,14 @@ use Rattle.layout.proofs.put.put_analog.Tie as tie
 returns : tie.Need-returns
 returns c =
     let s = c .before .before .before .before .before .before .before .before .before .before .before .before .before .before .before .before .before .before in
-    analog-put (now (s .args .words)) (s .args .at) (s .pre) (c .before .before .before .before .before .before .before .before .before .before .before .before .before .before .before .before .byte-pair .ensures) (s .args .g) (s .args .s)
-    (c .before .before .before .before .before .before .before .before .before .before .before .before .before .before .before .real-pair .ensures) (c .before .before .before .before .before .before .before .before .before .before .before .before .before .before .real-pair2 .ensures) (c .before .before .before .before .before .before .before .before .before .before .before .before .before .real-pair3 .ensures)
-    (c .before .before .before .before .before .before .before .before .pattern .ensures) (c .before .before .before .before .before .before .before .pair .ensures)
+    analog-put (now (s .args .words)) (s .args .at) (s .pre)
+    (c .before .before .before .before .before .before .before .before .before .before .before .before .before .before .before .before .byte-pair .ensures)
+    (s .args .g) (s .args .s)
+    (c .before .before .before .before .before .before .before .before .before .before .before .before .before .before .before .real-pair .ensures)
+    (c .before .before .before .before .before .before .before .before .before .before .before .before .before .before .real-pair2 .ensures)
+    (c .before .before .before .before .before .before .before .before .before .before .before .before .before .real-pair3 .ensures)
+    (c .before .before .before .before .before .before .before .before .pattern .ensures)
+    (c .before .before .before .before .before .before .before .pair .ensures)
     (c .before .before .before .before .before .pair2 .ensures) (c .before .before .before .before .pair3 .ensures) (c .before .before .before .pair4 .ensures)
     (c .before .before .before .before .before .before .before .before .before .before .before .put-four .ensures) (c .before .before .put-four2 .ensures)
 

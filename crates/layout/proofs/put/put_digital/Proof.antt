@@ -8,7 +8,9 @@ use Rattle.layout.proofs.put.put_digital.Tie as tie
 returns : tie.Need-returns
 returns c =
     let s = c .before .before .before .before .before .before .before .before .before .before .before in
-    digital-put (now (s .args .words)) (s .args .at) (s .pre) (c .before .before .before .before .before .before .before .before .byte-pair .ensures) (c .before .before .before .pair .ensures) (c .before .before .before .before .before .before .before .put-four .ensures) (c .before .before .put-four2 .ensures)
+    digital-put (now (s .args .words)) (s .args .at) (s .pre) (c .before .before .before .before .before .before .before .before .byte-pair .ensures)
+    (c .before .before .before .pair .ensures) (c .before .before .before .before .before .before .before .put-four .ensures)
+    (c .before .before .put-four2 .ensures)
 
 pub put-digital-spec : {M : Type 1} → statement M
 put-digital-spec =

@@ -6,7 +6,17 @@ use Rattle.layout.proofs.read.limits_in.Tie as tie
 
 returns : tie.Need-returns
 unfolding limitsIn
-returns c = cc
+returns c =
+    λ i.
+    record {
+      hh = c .before .before .before .before .before .before .hh-in .ensures i;
+      h = c .before .before .before .before .before .h-in .ensures i;
+      l = c .before .before .before .before .l-in .ensures i;
+      ll = c .before .before .before .ll-in .ensures i;
+      deadband = c .before .before .deadband-in .ensures i;
+      rocpos = c .before .rocpos-in .ensures i;
+      rocneg = c .rocneg-in .ensures i;
+    }
 
 pub limits-in-spec : {M : Type 1} → statement M
 limits-in-spec =

@@ -1,4 +1,5 @@
--- `marks::mark::mark_conditions` meets its contract: the invariant: the conditions before the place are marked, and the rest of the events are those from it on. The measure is the places left. Assumes nothing.
+-- `marks::mark::mark_conditions` meets its contract: the invariant: the conditions before the place are marked, and the rest of the events
+-- are those from it on. The measure is the places left. Assumes nothing.
 use borrow.Author.Needs.{needs}
 use borrow.Author.Tests.{ltb-true}
 use mathlib.Core.Bool.{Bool, true, _&&_}
@@ -45,10 +46,16 @@ mark-turn-requires : tie.Need-mark-turn-requires Inv-loop μ-loop
 mark-turn-requires c κs = let h = place-left (c .before .before .loop .place) _ (c .before .loop-test .taken) in search needs
 
 add-place : tie.Need-add-place Inv-loop μ-loop
-add-place c = let h = place-left (c .before .before .before .before .before .loop .place) _ (c .before .before .before .before .loop-test .taken) in search needs
+add-place c =
+    let test = c .before .before .before .before in
+    let h = place-left (test .before .loop .place) _ (test .loop-test .taken) in
+    search needs
 
 loop-less : tie.Need-loop-less Inv-loop μ-loop
-loop-less c = let h = place-left (c .before .before .before .before .before .loop .place) _ (c .before .before .before .before .loop-test .taken) in search needs
+loop-less c =
+    let test = c .before .before .before .before in
+    let h = place-left (test .before .loop .place) _ (test .loop-test .taken) in
+    search needs
 
 loop-again : tie.Need-loop-again Inv-loop μ-loop
 loop-again c =
@@ -59,14 +66,18 @@ loop-again c =
       search needs,
       p .kept .0 ∙ l .inv .1,
       rest-next (a .events) (l .place) (l .inv .2),
-      p .ensures ∙ conditions-next (a .required) (startsIn (now (a .states)) (a .from)) (a .events) (a .time) (a .base) (l .place) (now (a .marks)) (l .inv .2) (start-in (now (a .states)) (a .from) (l .place) h) (l .inv .3),
+      p .ensures
+          ∙ conditions-next (a .required) (startsIn (now (a .states)) (a .from)) (a .events) (a .time) (a .base) (l .place) (now (a .marks)) (l .inv .2)
+          (start-in (now (a .states)) (a .from) (l .place) h) (l .inv .3),
     )
 
 returns : tie.Need-returns Inv-loop μ-loop
 returns c =
     let a = c .before .before .before .before .args in
     let l = c .before .loop in
-    l .inv .3 ∙ conditions-end (a .required) (startsIn (now (a .states)) (a .from)) (a .events) (a .time) (a .base) (l .place) (now (a .marks)) (l .inv .0) (l .inv .2) (c .loop-test .left)
+    l .inv .3
+    ∙ conditions-end (a .required) (startsIn (now (a .states)) (a .from)) (a .events) (a .time) (a .base) (l .place) (now (a .marks)) (l .inv .0)
+    (l .inv .2) (c .loop-test .left)
 
 pub mark-conditions-spec : {M : Type 1} → statement M
 mark-conditions-spec =

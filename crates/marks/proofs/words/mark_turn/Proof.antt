@@ -16,7 +16,8 @@ returns : tie.Need-returns
 returns c =
     let a = c .before .before .before .args in
     let p = and-true (not (a .reset)) (eqb (a .events % 8) 0) (c .if1 .taken) in
-    sym (turn-still (a .required) (getD (a .states .now) (a .start) 0) (a .time) (a .at) (a .events) (now (a .marks)) (not-true (a .reset) (p .0)) (eqb-true _ _ (p .1)))
+    let start = getD (a .states .now) (a .start) 0 in
+    sym (turn-still (a .required) start (a .time) (a .at) (a .events) (now (a .marks)) (not-true (a .reset) (p .0)) (eqb-true _ _ (p .1)))
 
 pub mark-turn-spec : {M : Type 1} → statement M
 mark-turn-spec =

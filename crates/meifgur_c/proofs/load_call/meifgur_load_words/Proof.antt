@@ -16,12 +16,15 @@ returns c = rw (lt-ltb (length (now (c .before .before .before .before .before .
 
 returns-2 : tie.Need-returns-2
 returns-2 c =
-    let a = c .before .before .before .before .before .before .before .before .before .before .before .before .before .before .before .before .before .before .before .before .before .before .before .before .args in
+    let half = c .before .before .before .before .before .before .before .before .before .before .before .before in
+    let a = half .before .before .before .before .before .before .before .before .before .before .before .before .args in
     let e = c .before .before .before .before .before .before .before .before .before .before .before .before .before .before .load .ensures in
     let f = c .before .before .put-loaded .ensures in
     let d = c .before .before .before .before .before .before .word-at .ensures ∙ ap (λ (l : List ℕ). getD l 1 0) (e .1 .0) in
     let n = c .before .before .before .before .word-at2 .ensures ∙ ap (λ (l : List ℕ). getD l 2 0) (e .1 .0) in
-    rw (le-ltb (length (now (a .answer))) 4 (c .before .before .before .before .before .before .before .before .before .before .before .before .before .before .before .before .before .before .if1 .left)) (
+    let half = c .before .before .before .before .before .before .before .before .before in
+    let test = half .before .before .before .before .before .before .before .before .before in
+    rw (le-ltb (length (now (a .answer))) 4 (test .if1 .left)) (
       f .0 ∙ ap replyNumber (e .0),
       (e .1 .0, (e .1 .1 .0, (e .1 .1 .1, f .1 ∙ (λ i. sets (now (a .answer)) 0 (loadFields (e .0 i) (d i) (n i)))))),
     )

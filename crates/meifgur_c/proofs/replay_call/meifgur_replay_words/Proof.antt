@@ -11,14 +11,18 @@ use Rattle.meifgur_c.proofs.replay_call.meifgur_replay_words.Statement.
 use Rattle.meifgur_c.proofs.replay_call.meifgur_replay_words.Tie as tie
 
 returns : tie.Need-returns
-returns c = rw (lt-ltb (length (now (c .before .before .before .before .before .before .before .args .answer))) 5 (c .if1 .taken)) (refl, (refl, (refl, (refl, refl))))
+returns c =
+    rw (lt-ltb (length (now (c .before .before .before .before .before .before .before .args .answer))) 5 (c .if1 .taken))
+    (refl, (refl, (refl, (refl, refl))))
 
 returns-2 : tie.Need-returns-2
 returns-2 c =
-    let a = c .before .before .before .before .before .before .before .before .before .before .before .before .before .before .before .before .before .before .before .before .before .args in
+    let half = c .before .before .before .before .before .before .before .before .before .before in
+    let a = half .before .before .before .before .before .before .before .before .before .before .before .args in
     let e = c .before .before .before .before .before .before .before .before .before .before .replay .ensures in
     let f = c .before .before .put-replayed .ensures in
-    rw (le-ltb (length (now (a .answer))) 5 (c .before .before .before .before .before .before .before .before .before .before .before .before .before .before .if1 .left)) (
+    let test = c .before .before .before .before .before .before .before .before .before .before .before .before .before .before in
+    rw (le-ltb (length (now (a .answer))) 5 (test .if1 .left)) (
       f .0 ∙ ap (λ (r : Replayed). replyNumber (r .reply)) (e .0),
       (e .1 .0, (e .1 .1 .0, (e .1 .1 .1, f .1 ∙ ap (λ (r : Replayed). sets (now (a .answer)) 0 (replayAnswer r)) (e .0)))),
     )

@@ -16,16 +16,22 @@ returns : tie.Need-returns
 returns c = rw (lt-ltb (length (now (c .before .before .before .before .before .before .args .answer))) 2 (c .if1 .taken)) (refl, (refl, refl))
 
 returns-2 : tie.Need-returns-2
-returns-2 c = rw (le-ltb (length (now (c .before .before .before .before .before .before .before .args .answer))) 2 (c .before .if1 .left), lt-ltb (length (now (c .before .before .before .before .before .before .before .args .out))) 224 (c .if2 .taken)) (refl, (refl, refl))
+returns-2 c =
+    let a = c .before .before .before .before .before .before .before .args in
+    rw (le-ltb (length (now (a .answer))) 2 (c .before .if1 .left), lt-ltb (length (now (a .out))) 224 (c .if2 .taken)) (refl, (refl, refl))
 
 returns-3 : tie.Need-returns-3
 returns-3 c =
     let a = c .before .before .before .before .before .before .before .before .before .before .before .before .before .before .before .before .args in
     let r = c .before .before .before .before .before .before .before .before .report .ensures in
     let f = c .before .before .put-reply .ensures in
-    rw (le-ltb (length (now (a .answer))) 2 (c .before .before .before .before .before .before .before .before .before .before .if1 .left), le-ltb (length (now (a .out))) 224 (c .before .before .before .before .before .before .before .before .before .if2 .left)) (
+    let test = c .before .before .before .before .before .before .before .before .before in
+    rw (le-ltb (length (now (a .answer))) 2 (test .before .if1 .left), le-ltb (length (now (a .out))) 224 (test .if2 .left)) (
       f .0 ∙ ap (λ (q : AlarmReport). replyNumber (q .reply)) r,
-      (c .before .before .before .before .before .before .put-said .ensures ∙ ap (λ (q : AlarmReport). reportOut q (now (a .out))) r, f .1 ∙ ap (λ (q : AlarmReport). sets (now (a .answer)) 0 (replyWords (q .reply))) r),
+      (
+        c .before .before .before .before .before .before .put-said .ensures ∙ ap (λ (q : AlarmReport). reportOut q (now (a .out))) r,
+        f .1 ∙ ap (λ (q : AlarmReport). sets (now (a .answer)) 0 (replyWords (q .reply))) r,
+      ),
     )
 
 pub meifgur-report-words-spec : {M : Type 1} → statement M

@@ -12,7 +12,9 @@ use Rattle.meifgur_c.proofs.report_call.put_said.Tie as tie
 returns : tie.Need-returns
 returns c =
     let a = c .before .before .before .before .before .before .before .args in
-    c .before .before .put-report .ensures ∙ ap (λ (r : Reply). onSaid r (sets (now (a .out)) 0 (reportBytes (a .said))) (now (a .out))) (sym (c .before .before .before .before .enum-told .given .1))
+    c .before .before .put-report .ensures
+    ∙ ap (λ (r : Reply). onSaid r (sets (now (a .out)) 0 (reportBytes (a .said))) (now (a .out)))
+    (sym (c .before .before .before .before .enum-told .given .1))
 
 pub put-said-spec : {M : Type 1} → statement M
 put-said-spec =

@@ -13,14 +13,18 @@ use Rattle.meifgur_c.proofs.scan_call.meifgur_scan_words.Statement.{sta
 use Rattle.meifgur_c.proofs.scan_call.meifgur_scan_words.Tie as tie
 
 returns : tie.Need-returns
-returns c = rw (lt-ltb (length (now (c .before .before .before .before .before .before .before .args .answer))) 3 (c .if1 .taken)) (refl, (refl, (refl, (refl, refl))))
+returns c =
+    rw (lt-ltb (length (now (c .before .before .before .before .before .before .before .args .answer))) 3 (c .if1 .taken))
+    (refl, (refl, (refl, (refl, refl))))
 
 returns-2 : tie.Need-returns-2
 returns-2 c =
-    let a = c .before .before .before .before .before .before .before .before .before .before .before .before .before .before .before .before .before .before .before .before .before .args in
+    let half = c .before .before .before .before .before .before .before .before .before .before in
+    let a = half .before .before .before .before .before .before .before .before .before .before .before .args in
     let e = c .before .before .before .before .before .before .before .before .before .before .scan .ensures in
     let f = c .before .before .put-scanned .ensures in
-    rw (le-ltb (length (now (a .answer))) 3 (c .before .before .before .before .before .before .before .before .before .before .before .before .before .before .if1 .left))
+    let test = c .before .before .before .before .before .before .before .before .before .before .before .before .before .before in
+    rw (le-ltb (length (now (a .answer))) 3 (test .if1 .left))
     (f .0 ∙ ap scanNumber (e .0), (e .1 .0, (e .1 .1 .0, (e .1 .1 .1, f .1 ∙ ap (λ (r : Answer). sets (now (a .answer)) 0 (scanAnswer r)) (e .0)))))
 
 pub meifgur-scan-words-spec : {M : Type 1} → statement M

@@ -22,12 +22,14 @@ run-requires c κs =
 
 returns : tie.Need-returns
 returns c =
-    let a = c .before .before .before .before .before .before .before .before .before .before .before .before .before .before .before .before .before .before .before .before .before .args in
+    let half = c .before .before .before .before .before .before .before .before .before .before in
+    let a = half .before .before .before .before .before .before .before .before .before .before .before .args in
     let bytes : List ℕ = now (a .bytes) in
     let out : List ℕ = now (a .out) in
     let w : Words = wordsIn (now (a .settings)) (now (a .states)) (now (a .marks)) in
     let told = c .before .before .before .before .before .before .before .before .before .before .before .enum-told .given .1 in
-    let fits : Accepted ≡ fitOf w = sym told ∙ c .before .before .before .before .before .before .before .before .before .before .before .before .before .fit .ensures in
+    let fits : Accepted ≡ fitOf w =
+    sym told ∙ c .before .before .before .before .before .before .before .before .before .before .before .before .before .fit .ensures in
     let e = c .before .before .before .before .before .before .before .run .ensures in
     let words = words-are w bytes out fits in (
       c .with-reply .ensures ∙ (λ i. replied (told i) (e .0 i)) ∙ reply-is w bytes out fits,

@@ -8,7 +8,15 @@ use Rattle.report.proofs.whole.analog_whole.Tie as tie
 returns : tie.Need-returns
 unfolding stateIn
 returns c =
-    simp (c .elapsed-run2 .ensures, c .before .before .elapsed-run .ensures, c .before .before .before .before .upper-real .ensures, c .before .before .before .before .before .before .any-invalid .ensures, c .before .before .before .before .before .before .before .lower .ensures, div-one, add-zero)
+    simp (
+      c .elapsed-run2 .ensures,
+      c .before .before .elapsed-run .ensures,
+      c .before .before .before .before .upper-real .ensures,
+      c .before .before .before .before .before .before .any-invalid .ensures,
+      c .before .before .before .before .before .before .before .lower .ensures,
+      div-one,
+      add-zero,
+    )
 
 pub analog-whole-spec : {M : Type 1} → statement M
 analog-whole-spec =

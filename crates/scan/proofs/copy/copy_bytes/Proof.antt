@@ -23,8 +23,11 @@ loop-holds c = (search needs, refl, refl)
 loop-again : tie.Need-loop-again Inv-loop μ-loop
 loop-again c =
     let l = c .before .before .loop in
-    let a = c .before .before .before .args in
-    (search needs, ap (λ (m : List ℕ). set m (l .i) (getD (now (a .from)) (l .i) 0)) (l .inv .1) ∙ next-copied (now (a .from)) (now (a .to)) (l .i) (omega arith), length-set (l .to) (l .i) (getD (now (a .from)) (l .i) 0) ∙ l .inv .2)
+    let a = c .before .before .before .args in (
+      search needs,
+      ap (λ (m : List ℕ). set m (l .i) (getD (now (a .from)) (l .i) 0)) (l .inv .1) ∙ next-copied (now (a .from)) (now (a .to)) (l .i) (omega arith),
+      length-set (l .to) (l .i) (getD (now (a .from)) (l .i) 0) ∙ l .inv .2,
+    )
 
 same-length : tie.Need-same-length Inv-loop μ-loop
 same-length c = c .before .loop .inv .2

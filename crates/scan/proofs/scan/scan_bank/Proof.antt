@@ -93,8 +93,9 @@ returns-3 c =
     let room = length (now (a .out)) in
     let accepted : checkOf (bankIn w) rec ≡ Accepted = sym (told .before .before .check-record .ensures) ∙ told .enum-told .given .1 in
     let e = c .before .before .before .before .before .before .scan-alarms .ensures in
-    let h : length (logAfter w rec) ≤ room =
-    omega (arith, room-after w rec (ready w rec accepted (s .pre)), c .before .before .before .before .before .before .before .before .before .before .before .most-bytes .ensures, c .before .before .before .before .before .before .before .before .before .before .if1 .left) in
+    let test = c .before .before .before .before .before .before .before .before .before .before in
+    let most = room-after w rec (ready w rec accepted (s .pre)) in
+    let h : length (logAfter w rec) ≤ room = omega (arith, most, test .before .most-bytes .ensures, test .if1 .left) in
     let after = roomy-words w rec room h ∙ words-are w rec accepted room in (
       ap (λ (k : ℕ). Events (k / 16)) (e .0) ∙ roomy-answer w rec room h ∙ answer-is w rec accepted room,
       (

@@ -90,7 +90,8 @@ returns-2 c =
     ∙ logged in (
       ap (λ (k : ℕ). Events (k / 16)) used ∙ roomy-answer w rec room h,
       (
-        c .before .before .before .before .before .before .before .before .before .before .before .before .copy-words3 .ensures ∙ e .1 .0 ∙ ap (λ (v : Words). v .states) after,
+        c .before .before .before .before .before .before .before .before .before .before .before .before .copy-words3 .ensures ∙ e .1 .0
+            ∙ ap (λ (v : Words). v .states) after,
         (
           c .before .before .before .before .before .before .before .copy-words4 .ensures ∙ e .1 .1 .0 ∙ ap (λ (v : Words). v .marks) after,
           c .before .before .copy-bytes .ensures ∙ ap (sets (now (a .out)) 0) front ∙ roomy-out w rec (now (a .out)) h,

@@ -1,4 +1,5 @@
--- `sweep::alarms::scan_form` meets its contract: the invariant: the alarms before this one are stepped, logged and marked, and this one's part begins here. The measure is the alarms left. Assumes nothing.
+-- `sweep::alarms::scan_form` meets its contract: the invariant: the alarms before this one are stepped, logged and marked, and this one's
+-- part begins here. The measure is the alarms left. Assumes nothing.
 use borrow.Author.Needs.{needs}
 use denote.Ref.{now}
 use mathlib.Core.Path.{_≡_, refl, sym, ap, _∙_}
@@ -17,7 +18,8 @@ use Rattle.scan_record.proofs.Entries.{offset-next}
 use Rattle.bank.specs.Lent.{Words}
 use Rattle.bank.specs.Internal.Words.{wordsIn}
 use Rattle.sweep.specs.Internal.Sweep.{steppedFrom, markedFrom, logFrom}
-use Rattle.sweep.proofs.Loops.{stepped-length, marked-length, log-none, length-next, log-grows, log-here, states-next, marks-next, out-next, part-fits, part-next}
+use Rattle.sweep.proofs.Loops.{stepped-length, marked-length, log-none, length-next, log-grows, log-here, states-next, marks-next, out-next, part-fits}
+use Rattle.sweep.proofs.Loops.{part-next}
 use Rattle.sweep.proofs.alarms.scan_form.Statement.{statement}
 use Rattle.sweep.proofs.alarms.scan_form.Tie as tie
 
@@ -107,7 +109,8 @@ loop-again c =
     let e = ap length (log-here w rec (a .first) (l .n) f (l .inv .1) t (l .inv .4)) in
     let place : a .first + l .n + 1 ≡ a .first + (l .n + 1) = omega arith in (
       omega arith,
-      (λ i. l .inv .1 i + size i) ∙ ap (λ (g : Form). offsetOf (digitalIn (now (a .settings))) (a .first + l .n) + entrySize g) (sym f) ∙ offset-next (digitalIn (now (a .settings))) (a .first + l .n) ∙ ap (offsetOf (digitalIn (now (a .settings)))) place,
+      (λ i. l .inv .1 i + size i) ∙ ap (λ (g : Form). offsetOf (digitalIn (now (a .settings))) (a .first + l .n) + entrySize g) (sym f)
+          ∙ offset-next (digitalIn (now (a .settings))) (a .first + l .n) ∙ ap (offsetOf (digitalIn (now (a .settings)))) place,
       ap (λ (k : ℕ). l .at + k) size ∙ part-next (a .begin) (entrySize (a .form)) (l .n) (l .inv .2),
       omega (arith, p .0, e, l .inv .3, length-next w rec (a .first) (l .n)),
       p .1 .0 ∙ states-next w rec (a .first) (l .n) f (l .inv .1) t (l .inv .4),

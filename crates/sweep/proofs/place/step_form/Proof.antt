@@ -21,13 +21,16 @@ get-u32-requires-2 c κs = omega (arith, rw (c .before .enum-told2 .given .1) at
 
 returns : tie.Need-returns
 unfolding placeStep placeStates stepKind alarmIn
-returns c = rw (c .before .before .before .before .before .before .enum-told .given .1, ← c .before .before .before .before .get-u32 .ensures) (c .before .before .digital-step .ensures)
+returns c =
+    rw (c .before .before .before .before .before .before .enum-told .given .1, ← c .before .before .before .before .get-u32 .ensures)
+    (c .before .before .digital-step .ensures)
 
 returns-2 : tie.Need-returns-2
 unfolding placeStep placeStates stepKind alarmIn
 returns-2 c =
     let read = c .before .before .before .before .before in
-    rw (read .before .enum-told2 .given .1, ← c .before .before .before .before .get-u322 .ensures, ← read .get-real .ensures) (c .before .before .analog-step .ensures)
+    rw (read .before .enum-told2 .given .1, ← c .before .before .before .before .get-u322 .ensures, ← read .get-real .ensures)
+    (c .before .before .analog-step .ensures)
 
 pub step-form-spec : {M : Type 1} → statement M
 step-form-spec =
