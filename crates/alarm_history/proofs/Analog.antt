@@ -30,7 +30,8 @@ use Rattle.alarm_history.specs.Scans.{Scan, previous, enabled, countRese
 use Rattle.alarm_history.specs.Sample.{sampledAt, sampleIn, rateIn}
 use Rattle.alarm_history.specs.Facts.{Rules, analogRules, rulesBy, rulesOf, run, facts}
 use Rattle.alarm_history.specs.Stamps.{ownStart}
-use Rattle.alarm_history.specs.Internal.After.{levelOf, analogRun, keptIn, own, analogFrom, analogTurn, analogMarks, turnIn, marksIn, changes, wholeBits, conditionBits}
+use Rattle.alarm_history.specs.Internal.After.{levelOf, analogRun, keptIn, own, analogFrom, analogTurn, analogMarks, turnIn, marksIn, changes}
+use Rattle.alarm_history.specs.Internal.After.{wholeBits, conditionBits}
 use Rattle.alarm_history.proofs.Marks.{clear, lasted-is, same-marks, activated-start, marks-kept}
 use Rattle.alarm_history.proofs.Modes.{disabled-next, suppressed-next}
 

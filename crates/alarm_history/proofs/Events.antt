@@ -67,7 +67,8 @@ module _ (n : ℕ) (a : Alarm) (s : Scan) (past : List Scan) where
       ∙ log-is
 
   pub analog-log-is : {limits : Limits} {severities : Severities} {period : ℕ} → a .kind ≡ Analog limits severities period
-      → from 0 (analogEvents reals (realAnalog a) (s .reading) (s .word) (s .time) (analogFrom reals (realAnalog a) (ackRequired (a .kind) (a .flags)) past)) ≡ alarmLog n a s past
+      → from 0 (analogEvents reals (realAnalog a) (s .reading) (s .word) (s .time) (analogFrom reals (realAnalog a) (ackRequired (a .kind) (a .flags)) past))
+      ≡ alarmLog n a s past
   analog-log-is k =
       ap (from 0)
       (analog-bits reals (realAnalog a) (analog-required a k) s past

@@ -24,7 +24,8 @@ use Rattle.settings.specs.declared.types.Form.{Form}
 use Rattle.settings.specs.declared.types.Form.the-variants.{Digital as DigitalForm, Analog as AnalogForm}
 use Rattle.settings.specs.declared.reply.Reply.the-variants.{Accepted}
 use Rattle.reader.specs.Internal.Sound.{SoundSettings}
-use Rattle.step.specs.Internal.Held.{freshState, lookDigital, realPatterns, lookAnalog, runOf, cellOf, Six, HH, H, L, LL, ROCPos, ROCNeg, Side, High, Low, place}
+use Rattle.step.specs.Internal.Held.{freshState, lookDigital, realPatterns, lookAnalog, runOf, cellOf, Six, HH, H, L, LL, ROCPos, ROCNeg, Side, High, Low}
+use Rattle.step.specs.Internal.Held.{place}
 use Rattle.step.specs.Internal.Digital.{digitalStep}
 use Rattle.step.specs.Internal.Analog.{analogStep}
 use Rattle.step.specs.Internal.Step.{stepKind, stepOf}
@@ -239,7 +240,8 @@ module _ (image : List ℕ) (past : List (List ℕ)) (b : Bank) (rec : List ℕ)
       (stamped-after p l e))
 
   analog-next : (p : ℕ) → digital ≤ p → p < alarmsOf b
-      → AnalogView reals realPatterns (realAnalog (alarm p)) (getD (planFor b rec .states) p freshState) marksNext (25 * p) (scansAt (b .settings) p (rec ∷ past))
+      → AnalogView reals realPatterns (realAnalog (alarm p)) (getD (planFor b rec .states) p freshState) marksNext (25 * p)
+      (scansAt (b .settings) p (rec ∷ past))
   analog-next p l h =
       let e = analog-stepped p l h in
       let a = realAnalog (alarm p) in

@@ -14,7 +14,8 @@ use Rattle.history.specs.Internal.Condition.{alarmAfter, unackedAfter, c
 
 -- a condition that is due stays in alarm: the step's "was not in alarm" changes nothing
 alarm-step : (enabled met frees ready alarm : Bool)
-    → (enabled && met && ready && not alarm || enabled && not (not met && frees) && alarm) ≡ (enabled && met && ready || enabled && not (not met && frees) && alarm)
+    → (enabled && met && ready && not alarm || enabled && not (not met && frees) && alarm)
+    ≡ (enabled && met && ready || enabled && not (not met && frees) && alarm)
 alarm-step false met frees ready alarm = refl
 alarm-step true false frees ready alarm = refl
 alarm-step true true frees false alarm = refl
@@ -74,7 +75,8 @@ module _ {S C : Type 0} (f : Facts S C) (frees : C → Fact S) (clear : Frees f 
   unfolding kept countFrom
   kept-count [] c = refl
   kept-count (s ∷ past) c =
-      ap₂ (λ (before : C → Bool) (n : ℕ). countAfter (f .reset s past) (activates (told f frees before c s past) (before c)) n) (fun-ext (kept-alarm past)) (kept-count past c)
+      ap₂ (λ (before : C → Bool) (n : ℕ). countAfter (f .reset s past) (activates (told f frees before c s past) (before c)) n) (fun-ext (kept-alarm past))
+      (kept-count past c)
       ∙ count-step (f .reset s past) (activation f c s past) (countFrom (f .reset) (activation f c) past)
 
   -- the events of the step are those of the descriptions

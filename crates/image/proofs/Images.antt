@@ -11,7 +11,8 @@ use native.Mathlib.Omega.{arith}
 use lib.ListN.{length, getD, take, length-append, length-take, length-drop, drop, drop-of-length-le}
 use lib.Seq.{slice, slice-cons, sets, sets-eq}
 use Rattle.wire.proofs.Laws.{length-words, sets-append, and-true, most-true}
-use Rattle.image.specs.Internal.Write.{digitalBytes, analogBytes, severityWords, limitWords, kindBytes, recordBytes, recordsBytes, sectionBytes, imageOf, sizeOfImage, hasRoom}
+use Rattle.image.specs.Internal.Write.{digitalBytes, analogBytes, severityWords, limitWords, kindBytes, recordBytes, recordsBytes, sectionBytes}
+use Rattle.image.specs.Internal.Write.{imageOf, sizeOfImage, hasRoom}
 use Rattle.settings_record.specs.Record.{sizeOf}
 use Rattle.settings.specs.Alarm.{blank}
 use Rattle.settings.specs.declared.types.Alarm.{Alarm}

@@ -75,7 +75,8 @@ module _ (flags met frees ready acks on need : ℕ) where
 
   module _ (enabled required : Bool) (p : on ≡ cond enabled 37449 0) (q : need ≡ cond required 37449 0) where
     abbrev told : ℕ → Told
-    told k = record { enabled = enabled; met = bit met (3 * k); frees = bit frees (3 * k); ready = bit ready (3 * k); ack = bit acks (3 * k); required = required }
+    told k =
+        record { enabled = enabled; met = bit met (3 * k); frees = bit frees (3 * k); ready = bit ready (3 * k); ack = bit acks (3 * k); required = required }
 
     abbrev inAlarm : ℕ → Bool
     inAlarm k = bit flags (6 + 3 * k)

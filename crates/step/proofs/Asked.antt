@@ -75,7 +75,8 @@ module _ (flags met : ℕ) where
         alike = λ enabled frees acks required.
             six-alike rising z (cell flags enabled met frees ready acks required) (cell flags enabled met frees other acks required)
             (λ k.
-            ready-alike enabled (bit met (3 * k)) (bit frees (3 * k)) (bit ready (3 * k)) (bit other (3 * k)) (bit acks (3 * k)) required (was k) (bit flags (7 + 3 * k)));
+            ready-alike enabled (bit met (3 * k)) (bit frees (3 * k)) (bit ready (3 * k)) (bit other (3 * k)) (bit acks (3 * k)) required (was k)
+            (bit flags (7 + 3 * k)));
       }
 
   -- none is in alarm and not met
@@ -89,5 +90,6 @@ module _ (flags met : ℕ) where
         alike = λ enabled ready acks required.
             six-alike falling z (cell flags enabled met frees ready acks required) (cell flags enabled met other ready acks required)
             (λ k.
-            frees-alike enabled (bit met (3 * k)) (bit frees (3 * k)) (bit other (3 * k)) (bit ready (3 * k)) (bit acks (3 * k)) required (was k) (bit flags (7 + 3 * k)));
+            frees-alike enabled (bit met (3 * k)) (bit frees (3 * k)) (bit other (3 * k)) (bit ready (3 * k)) (bit acks (3 * k)) required (was k)
+            (bit flags (7 + 3 * k)));
       }

@@ -49,7 +49,8 @@ cell-lists : (flags : ℕ) (enabled required : Bool) (met frees ready acks : Lis
 cell-lists flags enabled required met frees ready acks k = rw (bit-spread met k, bit-spread frees k, bit-spread ready k, bit-spread acks k)
 
 -- modes, the sample and the runs, and the conditions
-flags-join : (d s f e h l : Bool) (cells : List Bool) → wordOf (d ∷ s ∷ f ∷ []) + 8 * wordOf (e ∷ h ∷ l ∷ []) + 64 * wordOf cells ≡ wordOf (d ∷ s ∷ f ∷ e ∷ h ∷ l ∷ cells)
+flags-join : (d s f e h l : Bool) (cells : List Bool)
+    → wordOf (d ∷ s ∷ f ∷ []) + 8 * wordOf (e ∷ h ∷ l ∷ []) + 64 * wordOf cells ≡ wordOf (d ∷ s ∷ f ∷ e ∷ h ∷ l ∷ cells)
 unfolding wordOf
 flags-join d s f e h l cells = omega arith
 

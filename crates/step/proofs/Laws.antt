@@ -24,9 +24,11 @@ use Rattle.history.specs.Internal.Condition.{Told, acknowledges, returns, activ
 use Rattle.level.specs.Internal.Sample.{sampleAfter}
 use Rattle.condition.specs.Command.{enables, disables, countResets, resets, acksAll, acks, faults}
 use Rattle.condition.specs.Internal.Mode.{disabledAfter, suppressedAfter, wholeEvents}
-use Rattle.step.specs.Internal.Held.{DigitalHeld, lookDigital, digitalFlags, hideDigital, Six, HH, H, L, LL, ROCPos, ROCNeg, Side, High, Low, ofSix, AnalogHeld, Patterns, realPatterns, runOf, cellOf, lookAnalog, analogFlags, hideAnalog}
+use Rattle.step.specs.Internal.Held.{DigitalHeld, lookDigital, digitalFlags, hideDigital, Six, HH, H, L, LL, ROCPos, ROCNeg, Side, High, Low, ofSix}
+use Rattle.step.specs.Internal.Held.{AnalogHeld, Patterns, realPatterns, runOf, cellOf, lookAnalog, analogFlags, hideAnalog}
 use Rattle.step.specs.Internal.Digital.{digitalTold, digitalAfter, digitalEvents}
-use Rattle.step.specs.Internal.Analog.{analogTold, cellAfter, analogEnabled, analogSample, analogAfter, cellEvents, analogEvents, sampleStays, samplePattern, ratePattern, analogStep}
+use Rattle.step.specs.Internal.Analog.{analogTold, cellAfter, analogEnabled, analogSample, analogAfter, cellEvents, analogEvents, sampleStays}
+use Rattle.step.specs.Internal.Analog.{samplePattern, ratePattern, analogStep}
 use Rattle.step.specs.Internal.Events.{eventsFrom}
 use Rattle.step.specs.Internal.State.{State}
 
@@ -112,7 +114,8 @@ unfolding analogStep sampleAfter
 look-analog a s x word time h =
     let held = lookAnalog realPatterns s in
     let y : Float = valueOf reals (realOf x) in
-    look-packed realPatterns (analogAfter reals a x word time held) (samplePattern reals realPatterns a s x word time) (ratePattern reals realPatterns a s x word time)
+    look-packed realPatterns (analogAfter reals a x word time held) (samplePattern reals realPatterns a s x word time)
+    (ratePattern reals realPatterns a s x word time)
     (value-back (sampleStays reals a x word time held) (s .sample) y (value-fits x h))
     (rate-back (analogEnabled reals a x word time held) (bit (s .flags) 3) (leb (a .period) (time - s .sampled)) (s .rate)
     (newRate (a .period) (ofBits binary32 (s .sample)) y) (rate-fits (a .period) (ofBits binary32 (s .sample)) y))
@@ -134,7 +137,8 @@ mode-most true before = omega (arith, one (not before))
 mode-most false before = omega (arith, one before)
 
 -- of the whole alarm at most three: disabled or enabled, suppressed or unsuppressed, count reset
-pub whole-most : (disabled suppressed : Bool) (word previous : ℕ) (rest : List Bool) → number (wholeEvents disabled suppressed word previous ++ rest) ≤ 3 + number rest
+pub whole-most : (disabled suppressed : Bool) (word previous : ℕ) (rest : List Bool)
+    → number (wholeEvents disabled suppressed word previous ++ rest) ≤ 3 + number rest
 unfolding number
 whole-most disabled suppressed word previous rest =
     omega (
@@ -199,7 +203,9 @@ module _ {X : Type 0} (n : Numbers X) (a : AnalogOf X) (x : Reading) (word time 
 
   pub analog-most : number (analogEvents n a x word time h) ≤ 15
   analog-most =
-      let w = whole-most (h .disabled) (h .suppressed) word (h .previous) (cell-bits HH (cell-bits H (cell-bits L (cell-bits LL (cell-bits ROCPos (cell-bits ROCNeg [])))))) in
+      let w =
+      whole-most (h .disabled) (h .suppressed) word (h .previous)
+      (cell-bits HH (cell-bits H (cell-bits L (cell-bits LL (cell-bits ROCPos (cell-bits ROCNeg [])))))) in
       omega (arith, w, six-most)
 
   pub no-events-analog : disabledAfter word (h .disabled) ≡ true → (c : Six) (rest : List Bool)

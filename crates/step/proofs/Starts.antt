@@ -67,7 +67,8 @@ two-kept a b bs time at ws h₁ h₂ h₃ =
 -- a store in front of a run of stores may come first
 pub set-first : (xs l : List ℕ) (i j v : ℕ) → j < i → set (sets l i xs) j v ≡ sets (set l j v) i xs
 set-first [] l i j v h = refl
-set-first (x ∷ xs) l i j v h = set-first xs (set l i x) (suc i) j v (omega arith) ∙ ap (λ (m : List ℕ). sets m (suc i) xs) (set-comm l i j x v (λ e. omega arith))
+set-first (x ∷ xs) l i j v h =
+    set-first xs (set l i x) (suc i) j v (omega arith) ∙ ap (λ (m : List ℕ). sets m (suc i) xs) (set-comm l i j x v (λ e. omega arith))
 
 -- ---- the rows that begin
 

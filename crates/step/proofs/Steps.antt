@@ -27,7 +27,8 @@ use Rattle.condition.specs.Internal.Outcome.{ackBits}
 use Rattle.six.specs.Internal.Cells.{six, cellsOf}
 use Rattle.six.specs.declared.decide.Cells.{Cells}
 use Rattle.step.specs.Internal.State.{State, stateIn, stateWords}
-use Rattle.step.specs.Internal.Held.{DigitalHeld, lookDigital, digitalFlags, hideDigital, Six, HH, H, L, LL, ROCPos, ROCNeg, place, ofSix, High, Low, AnalogHeld, realPatterns, lookAnalog, analogFlags}
+use Rattle.step.specs.Internal.Held.{DigitalHeld, lookDigital, digitalFlags, hideDigital, Six, HH, H, L, LL, ROCPos, ROCNeg, place, ofSix, High, Low}
+use Rattle.step.specs.Internal.Held.{AnalogHeld, realPatterns, lookAnalog, analogFlags}
 use Rattle.step.specs.Internal.Digital.{digitalAfter, digitalEvents, digitalStep}
 use Rattle.step.specs.Internal.Analog.{analogEnabled, analogSample, sampleStays, samplePattern, ratePattern, analogStep}
 use Rattle.step.specs.Internal.Packed.{keepStarts, allBegin, enabledIn, readyIn, SameFrees, decided, flagsAfter, staysIn, rateIn, sampleIn, sampledIn}
@@ -127,7 +128,8 @@ module _ (a : AnalogOf Float) (ws : List ℕ) (at : ℕ) (x : Reading) (word tim
   abbrev s : State
   s = stateIn ws at
 
-  module _ {enabled : Bool} {met′ : ℕ} (e : enabled ≡ analogEnabled reals a x word time (lookAnalog realPatterns s)) (m : met′ ≡ wordOf (spread (metBits reals a (realOf x) (after reals realPatterns a s x word time .sample .rate)))) where
+  module _ {enabled : Bool} {met′ : ℕ} (e : enabled ≡ analogEnabled reals a x word time (lookAnalog realPatterns s))
+      (m : met′ ≡ wordOf (spread (metBits reals a (realOf x) (after reals realPatterns a s x word time .sample .rate)))) where
     abbrev bits : List Bool
     bits = metBits reals a (realOf x) (after reals realPatterns a s x word time .sample .rate)
 
@@ -150,7 +152,8 @@ module _ (a : AnalogOf Float) (ws : List ℕ) (at : ℕ) (x : Reading) (word tim
   abbrev period : ℕ
   period = a .period
 
-  pub rate-pattern-is : rateIn (state .flags) enabled period (getD ws (at + 1) 0) (getD ws (at + 2) 0) (valueOf reals (realOf x)) time ≡ ratePattern reals realPatterns a state x word time
+  pub rate-pattern-is : rateIn (state .flags) enabled period (getD ws (at + 1) 0) (getD ws (at + 2) 0) (valueOf reals (realOf x)) time
+      ≡ ratePattern reals realPatterns a state x word time
   unfolding rateIn stateIn sampleAfter
   rate-pattern-is =
       rw e
@@ -171,7 +174,8 @@ module _ (a : AnalogOf Float) (ws : List ℕ) (at : ℕ) (x : Reading) (word tim
   unfolding stateIn sampleAfter
   rate-real =
       rate-back (analogEnabled reals a x word time (lookAnalog realPatterns state)) (bit (state .flags) 3) (leb period (time - state .sampled)) (state .rate)
-      (newRate period (ofBits binary32 (state .sample)) (valueOf reals (realOf x))) (rate-fits period (ofBits binary32 (state .sample)) (valueOf reals (realOf x)))
+      (newRate period (ofBits binary32 (state .sample)) (valueOf reals (realOf x)))
+      (rate-fits period (ofBits binary32 (state .sample)) (valueOf reals (realOf x)))
 
 -- ---- at rest
 
@@ -237,7 +241,8 @@ rest-words ws at p q sampled = rw (pair-back (getD ws at 0), n3 at, n4 at, n5 at
 -- ---- an analog alarm that is not at rest
 
 -- the modes say that the alarm is enabled
-pub enabled-is : (a : AnalogOf Float) (s : State) (x : Reading) (word time : ℕ) {m : ℕ} → m ≡ wordOf (modeBits (bit (s .flags) 0) (bit (s .flags) 1) word (s .previous))
+pub enabled-is : (a : AnalogOf Float) (s : State) (x : Reading) (word time : ℕ) {m : ℕ}
+    → m ≡ wordOf (modeBits (bit (s .flags) 0) (bit (s .flags) 1) word (s .previous))
     → enabledIn m ≡ analogEnabled reals a x word time (lookAnalog realPatterns s)
 unfolding modeBits
 enabled-is a s x word time p = ap not (word-low _ _ p)
@@ -246,42 +251,44 @@ module _ (a : AnalogOf Float) (ws : List ℕ) (at : ℕ) (x : Reading) (word tim
     (p : m ≡ wordOf (modeBits (bit (stateIn ws at .flags) 0) (bit (stateIn ws at .flags) 1) word (stateIn ws at .previous)))
     (q : met′ ≡ wordOf (spread (metBits reals a (realOf x) (after reals realPatterns a (stateIn ws at) x word time .sample .rate))))
     (r : SameFrees flags met′ frees′ freed) (n : flags ≡ stateIn ws at .flags) (v : freed ≡ wordOf (spread (freesBits reals a (realOf x))))
-    (d : duration ≡ a .duration) (k : required ≡ bit (a .flags) 4) (f : first ≡ getD ws at 0) (h : high ≡ getD ws (at + 3) 0) (l : low ≡ getD ws (at + 4) 0) where
-  abbrev kept : State
-  kept = stateIn ws at
+    (d : duration ≡ a .duration) (k : required ≡ bit (a .flags) 4) (f : first ≡ getD ws at 0) (h : high ≡ getD ws (at + 3) 0) (l : low ≡ getD ws (at + 4) 0)
+  where
+    abbrev kept : State
+    kept = stateIn ws at
 
-  abbrev next : AnalogHeld Float
-  next = after reals realPatterns a kept x word time
+    abbrev next : AnalogHeld Float
+    next = after reals realPatterns a kept x word time
 
-  on-is : enabledIn m ≡ analogEnabled reals a x word time (lookAnalog realPatterns kept)
-  on-is = enabled-is a kept x word time p
+    on-is : enabledIn m ≡ analogEnabled reals a x word time (lookAnalog realPatterns kept)
+    on-is = enabled-is a kept x word time p
 
-  six-are : decided first high low m met′ frees′ duration required word time
-      ≡ record { kept = wordOf (six (take 3) (outcomes reals realPatterns a kept x word time)); events = wordOf (six (drop 3) (outcomes reals realPatterns a kept x word time)) }
-  unfolding decided stateIn
-  six-are =
-      let ready : ℕ = readyIn (lowerOf first) high low duration time in
-      let acks : ℕ = wordOf (spread (ackBits word (upperOf first))) in
-      ap (λ (w : ℕ). cellsOf w (enabledIn m) met′ frees′ ready acks required) (ap lowerOf f ∙ sym n)
-      ∙ r .alike (enabledIn m) ready acks required
-      ∙ (λ i.
-      cellsOf (n i) (on-is i) (q i) (v i) (readyIn (lowerOf (f i)) (h i) (l i) (d i) time) (wordOf (spread (ackBits word (upperOf (f i))))) (k i))
-      ∙ cells-are reals realPatterns a kept x word time
+    six-are : decided first high low m met′ frees′ duration required word time
+        ≡ record { kept = wordOf (six (take 3) (outcomes reals realPatterns a kept x word time)); events = wordOf (six (drop 3) (outcomes reals realPatterns a kept x word time)) }
+    unfolding decided stateIn
+    six-are =
+        let ready : ℕ = readyIn (lowerOf first) high low duration time in
+        let acks : ℕ = wordOf (spread (ackBits word (upperOf first))) in
+        ap (λ (w : ℕ). cellsOf w (enabledIn m) met′ frees′ ready acks required) (ap lowerOf f ∙ sym n)
+        ∙ r .alike (enabledIn m) ready acks required
+        ∙ (λ i.
+        cellsOf (n i) (on-is i) (q i) (v i) (readyIn (lowerOf (f i)) (h i) (l i) (d i) time) (wordOf (spread (ackBits word (upperOf (f i))))) (k i))
+        ∙ cells-are reals realPatterns a kept x word time
 
-  pub events-are : m / 8 + 64 * decided first high low m met′ frees′ duration required word time .events ≡ analogStep reals realPatterns a kept x word time .events
-  unfolding analogStep
-  events-are = ap (λ (c : Cells). m / 8 + 64 * c .events) six-are ∙ analog-events reals realPatterns a kept x word time p
+    pub events-are : m / 8 + 64 * decided first high low m met′ frees′ duration required word time .events
+        ≡ analogStep reals realPatterns a kept x word time .events
+    unfolding analogStep
+    events-are = ap (λ (c : Cells). m / 8 + 64 * c .events) six-are ∙ analog-events reals realPatterns a kept x word time p
 
-  met-bit : (n : ℕ) → bit met′ (3 * n) ≡ getD (metBits reals a (realOf x) (next .sample .rate)) n false
-  met-bit n = ap (λ (w : ℕ). bit w (3 * n)) q ∙ bit-spread (metBits reals a (realOf x) (next .sample .rate)) n
+    met-bit : (n : ℕ) → bit met′ (3 * n) ≡ getD (metBits reals a (realOf x) (next .sample .rate)) n false
+    met-bit n = ap (λ (w : ℕ). bit w (3 * n)) q ∙ bit-spread (metBits reals a (realOf x) (next .sample .rate)) n
 
-  runs-are : wordOf (enabledIn m ∷ (enabledIn m && (bit met′ 0 || bit met′ 3)) ∷ (enabledIn m && (bit met′ 6 || bit met′ 9)) ∷ [])
-      ≡ wordOf (next .held ∷ next .run High .on ∷ next .run Low .on ∷ [])
-  unfolding metBits
-  runs-are = λ i. wordOf (on-is i ∷ (on-is i && (met-bit 0 i || met-bit 1 i)) ∷ (on-is i && (met-bit 2 i || met-bit 3 i)) ∷ [])
+    runs-are : wordOf (enabledIn m ∷ (enabledIn m && (bit met′ 0 || bit met′ 3)) ∷ (enabledIn m && (bit met′ 6 || bit met′ 9)) ∷ [])
+        ≡ wordOf (next .held ∷ next .run High .on ∷ next .run Low .on ∷ [])
+    unfolding metBits
+    runs-are = λ i. wordOf (on-is i ∷ (on-is i && (met-bit 0 i || met-bit 1 i)) ∷ (on-is i && (met-bit 2 i || met-bit 3 i)) ∷ [])
 
-  pub flags-are : flagsAfter m met′ (decided first high low m met′ frees′ duration required word time) ≡ wordOf (analogFlags next)
-  flags-are = ap (flagsAfter m met′) six-are ∙ analog-flags reals realPatterns a kept x word time p runs-are
+    pub flags-are : flagsAfter m met′ (decided first high low m met′ frees′ duration required word time) ≡ wordOf (analogFlags next)
+    flags-are = ap (flagsAfter m met′) six-are ∙ analog-flags reals realPatterns a kept x word time p runs-are
 
 pub analog-done : (a : AnalogOf Float) (ws : List ℕ) (at : ℕ) (x : Reading) (word time : ℕ) {enabled : Bool} {met′ first was : ℕ} {l k : List ℕ}
     → enabled ≡ analogEnabled reals a x word time (lookAnalog realPatterns (stateIn ws at))
@@ -296,7 +303,8 @@ analog-done a ws at x word time {enabled} {met′} {first} {l = l} e m f p b q =
     let w : ℕ = pairOf (samplePattern reals realPatterns a s x word time) (ratePattern reals realPatterns a s x word time) in
     let t : ℕ = after reals realPatterns a s x word time .sample .at in
     let bs : List Bool = allBegin (s .flags) enabled met′ in
-    let stored : l ≡ sets ws (at + 1) (w ∷ t ∷ []) = p ∙ (λ i. sets ws (at + 1) (sample-words a ws at x word time e i ∷ sampled-is a ws at x word time e i ∷ [])) in
+    let stored : l ≡ sets ws (at + 1) (w ∷ t ∷ []) =
+    p ∙ (λ i. sets ws (at + 1) (sample-words a ws at x word time e i ∷ sampled-is a ws at x word time e i ∷ [])) in
     let behind : startValues bs time (at + 3) (sets ws (at + 1) (w ∷ t ∷ [])) ≡ startValues bs time (at + 3) ws =
     values-behind bs time (at + 3) (suc (at + 1)) t (set ws (at + 1) w) (omega arith) ∙ values-behind bs time (at + 3) (at + 1) w ws (omega arith)
     in
@@ -321,11 +329,15 @@ pub rest-done : (a : AnalogOf Float) (ws : List ℕ) (at : ℕ) (x : Reading) (w
     → enabled ≡ analogEnabled reals a x word time (lookAnalog realPatterns (stateIn ws at)) → word ≡ 0 → getD ws at 0 ≡ 8
     → ((c : Six) → met reals a (ofSix c) (realOf x) (after reals realPatterns a (stateIn ws at) x word time .sample .rate) ≡ false)
     → l ≡ sets ws (at + 1) (sampleIn (stateIn ws at .flags) enabled (a .period) (getD ws (at + 1) 0) (getD ws (at + 2) 0) (valueOf reals (realOf x)) time ∷ sampledIn (stateIn ws at .flags) (a .period) (getD ws (at + 2) 0) time ∷ [])
-    → (0 ≡ analogStep reals realPatterns a (stateIn ws at) x word time .events) × (l ≡ sets ws at (stateWords (analogStep reals realPatterns a (stateIn ws at) x word time .state)))
+    → (0 ≡ analogStep reals realPatterns a (stateIn ws at) x word time .events)
+    × (l ≡ sets ws at (stateWords (analogStep reals realPatterns a (stateIn ws at) x word time .state)))
 rest-done a ws at x word time e w f unmet p =
     let s : State = stateIn ws at in
     let rests = analog-rests a s x word time w (first-flags ws at f) (first-previous ws at f) unmet in
-    let words = ap (λ r. stateWords (r .state)) rests ∙ rest-words ws at (samplePattern reals realPatterns a s x word time) (ratePattern reals realPatterns a s x word time) (after reals realPatterns a s x word time .sample .at) in (
+    let words =
+    ap (λ r. stateWords (r .state)) rests
+    ∙ rest-words ws at (samplePattern reals realPatterns a s x word time) (ratePattern reals realPatterns a s x word time)
+    (after reals realPatterns a s x word time .sample .at) in (
       sym (ap (λ r. r .events) rests),
       p
           ∙ (λ i. sets ws (at + 1) (sample-words a ws at x word time e i ∷ sampled-is a ws at x word time e i ∷ []))

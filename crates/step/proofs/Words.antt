@@ -30,7 +30,8 @@ copied ws at zero = []
 copied ws at (suc n) = getD ws at 0 ∷ copied ws (suc at) n
 
 -- storing them again changes nothing, where they stand yet
-pub stay : (n : ℕ) (ws l : List ℕ) (at : ℕ) (vs : List ℕ) → ((k : ℕ) → at ≤ k → getD l k 0 ≡ getD ws k 0) → sets l at (copied ws at n ++ vs) ≡ sets l (n + at) vs
+pub stay : (n : ℕ) (ws l : List ℕ) (at : ℕ) (vs : List ℕ) → ((k : ℕ) → at ≤ k → getD l k 0 ≡ getD ws k 0)
+    → sets l at (copied ws at n ++ vs) ≡ sets l (n + at) vs
 unfolding copied
 stay zero ws l at vs h = ap (λ (k : ℕ). sets l k vs) (sym (zero-add at))
 stay (suc n) ws l at vs h =

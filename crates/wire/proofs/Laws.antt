@@ -3,7 +3,8 @@ use mathlib.Core.Path.{_≡_, refl, sym, ap, ap₂, _∙_}
 use mathlib.Core.List.{List, [], _∷_, _++_, append-assoc}
 use mathlib.Core.Logic.{_⊎_, inl, inr}
 use Prim.Native.Nat.{ℕ, zero, suc, _+_, _*_, _/_, _%_, _^_, _≤_, _<_}
-use native.Mathlib.Nat.{eq-or-lt-of-le, le-of-suc-le-suc, add-zero, add-suc, mul-zero, add-assoc, zero-add, pow-zero, pow-suc, pow-succ', div-one, div-div-eq-div-mul, mul-pos, one-mul, mul-assoc, mul-add, suc-add, lt-of-not-le, not-le-of-lt}
+use native.Mathlib.Nat.{eq-or-lt-of-le, le-of-suc-le-suc, add-zero, add-suc, mul-zero, add-assoc, zero-add, pow-zero, pow-suc, pow-succ', div-one}
+use native.Mathlib.Nat.{div-div-eq-div-mul, mul-pos, one-mul, mul-assoc, mul-add, suc-add, lt-of-not-le, not-le-of-lt}
 use native.Mathlib.Numerals.{add-one}
 use native.Mathlib.Omega.{arith}
 use mathlib.Core.Bool.{Bool, true, false, _&&_, false≢true}
@@ -92,7 +93,8 @@ bytes-halves n m v = bytes-add n m v ∙ ap (λ (l : List ℕ). l ++ bytes m (v 
 take-bytes : (n : ℕ) (xs : List ℕ) → T (areBytes xs) → T (areBytes (take n xs))
 take-bytes zero xs h = tt
 take-bytes (suc n) [] h = tt
-take-bytes (suc n) (x ∷ xs) h = and-i (ltb x 256) (areBytes (take n xs)) (and-l (ltb x 256) (areBytes xs) h) (take-bytes n xs (and-r (ltb x 256) (areBytes xs) h))
+take-bytes (suc n) (x ∷ xs) h =
+    and-i (ltb x 256) (areBytes (take n xs)) (and-l (ltb x 256) (areBytes xs) h) (take-bytes n xs (and-r (ltb x 256) (areBytes xs) h))
 
 drop-bytes : (n : ℕ) (xs : List ℕ) → T (areBytes xs) → T (areBytes (drop n xs))
 drop-bytes zero xs h = h
@@ -136,7 +138,8 @@ pub byte-then : (l : List ℕ) (i b : ℕ) (vs : List ℕ) {l₁ m : List ℕ} �
 byte-then l i b vs e g = g ∙ rw (e, add-one)
 
 -- words are written one by one: l₁ has the first, m the rest
-pub word-then : (l : List ℕ) (i v : ℕ) (vs : List ℕ) {l₁ m : List ℕ} {j : ℕ} → l₁ ≡ sets l i (bytes 4 v) → j ≡ i + 4 → m ≡ sets l₁ j (words vs) → m ≡ sets l i (words (v ∷ vs))
+pub word-then : (l : List ℕ) (i v : ℕ) (vs : List ℕ) {l₁ m : List ℕ} {j : ℕ} → l₁ ≡ sets l i (bytes 4 v) → j ≡ i + 4 → m ≡ sets l₁ j (words vs)
+    → m ≡ sets l i (words (v ∷ vs))
 unfolding words
 word-then l i v vs {l₁} {m} {j} e f g =
     g ∙ ap (λ (k : List ℕ). sets k j (words vs)) e
@@ -149,7 +152,8 @@ words-append [] ys = refl
 words-append (x ∷ xs) ys = simp (words-append xs ys, append-assoc)
 
 -- the same of a run of words
-pub words-then : (l : List ℕ) (i : ℕ) (us vs : List ℕ) {l₁ m : List ℕ} {j : ℕ} → l₁ ≡ sets l i (words us) → j ≡ i + 4 * length us → m ≡ sets l₁ j (words vs) → m ≡ sets l i (words (us ++ vs))
+pub words-then : (l : List ℕ) (i : ℕ) (us vs : List ℕ) {l₁ m : List ℕ} {j : ℕ} → l₁ ≡ sets l i (words us) → j ≡ i + 4 * length us → m ≡ sets l₁ j (words vs)
+    → m ≡ sets l i (words (us ++ vs))
 words-then l i us vs {l₁} {m} {j} e f g =
     g ∙ ap (λ (k : List ℕ). sets k j (words vs)) e
     ∙ ap (λ (k : ℕ). sets (sets l i (words us)) k (words vs)) (f ∙ ap (λ (n : ℕ). i + n) (sym (length-words us)))

@@ -140,7 +140,8 @@ cellFlags c rest = c .alarm ∷ c .unacked ∷ c .row ∷ rest
 abbrev pub analogFlags : {X : Type 0} → AnalogHeld X → List Bool
 analogFlags a =
     a .disabled ∷ a .suppressed ∷ a .faulted ∷ a .held ∷ a .run High .on ∷ a .run Low .on
-    ∷ cellFlags (a .cell HH) (cellFlags (a .cell H) (cellFlags (a .cell L) (cellFlags (a .cell LL) (cellFlags (a .cell ROCPos) (cellFlags (a .cell ROCNeg) [])))))
+    ∷ cellFlags (a .cell HH)
+    (cellFlags (a .cell H) (cellFlags (a .cell L) (cellFlags (a .cell LL) (cellFlags (a .cell ROCPos) (cellFlags (a .cell ROCNeg) [])))))
 
 -- the packed state with these flags and patterns of sample and rate
 abbrev pub packed : {X : Type 0} → AnalogHeld X → ℕ → ℕ → ℕ → State

@@ -78,7 +78,8 @@ enabledIn modes = not (eqb (modes % 2) 1)
 -- the six conditions
 unfoldable pub decided : ℕ → ℕ → ℕ → ℕ → ℕ → ℕ → ℕ → Bool → ℕ → ℕ → Cells
 decided first high low modes met frees duration required word time =
-    cellsOf (lowerOf first) (enabledIn modes) met frees (readyIn (lowerOf first) high low duration time) (wordOf (spread (ackBits word (upperOf first)))) required
+    cellsOf (lowerOf first) (enabledIn modes) met frees (readyIn (lowerOf first) high low duration time) (wordOf (spread (ackBits word (upperOf first))))
+    required
 
 -- two words of conditions that would be due decide the six alike
 pub record SameReady (flags met ready other : ℕ) : Type 0 where

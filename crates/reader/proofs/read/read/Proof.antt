@@ -9,15 +9,28 @@ use Rattle.reader.proofs.read.read.Tie as tie
 
 read-rest-requires : tie.Need-read-rest-requires
 read-rest-requires c κs =
-    section-most _ _ _ _ _ (sym (ap (λ (f : Filled). f .section) (c .before .before .before .before .section-at .ensures)) ∙ c .before .before .section2 .given .1)
+    section-most _ _ _ _ _
+    (sym (ap (λ (f : Filled). f .section) (c .before .before .before .before .section-at .ensures)) ∙ c .before .before .section2 .given .1)
 
 returns : tie.Need-returns
 unfolding readOf
-returns c = simp (← c .before .before .before .before .before .blank-alarms .ensures, ← c .before .before .before .before .section-at .ensures, c .before .before .section .given .1, ← c .refused .ensures)
+returns c =
+    simp (
+      ← c .before .before .before .before .before .blank-alarms .ensures,
+      ← c .before .before .before .before .section-at .ensures,
+      c .before .before .section .given .1,
+      ← c .refused .ensures,
+    )
 
 returns-2 : tie.Need-returns-2
 unfolding readOf
-returns-2 c = simp (← c .before .before .before .before .before .before .blank-alarms .ensures, ← c .before .before .before .before .before .section-at .ensures, c .before .before .before .section2 .given .1, ← c .read-rest .ensures)
+returns-2 c =
+    simp (
+      ← c .before .before .before .before .before .before .blank-alarms .ensures,
+      ← c .before .before .before .before .before .section-at .ensures,
+      c .before .before .before .section2 .given .1,
+      ← c .read-rest .ensures,
+    )
 
 pub read-spec : {M : Type 1} → statement M
 read-spec =

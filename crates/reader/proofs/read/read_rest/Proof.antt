@@ -7,7 +7,13 @@ use Rattle.reader.proofs.read.read_rest.Tie as tie
 
 returns : tie.Need-returns
 unfolding restOf
-returns c = simp (← c .before .before .before .before .before .section-at .ensures, c .before .before .before .section2 .given .1, lt-ltb _ _ (c .before .if1 .taken), ← c .refused2 .ensures)
+returns c =
+    simp (
+      ← c .before .before .before .before .before .section-at .ensures,
+      c .before .before .before .section2 .given .1,
+      lt-ltb _ _ (c .before .if1 .taken),
+      ← c .refused2 .ensures,
+    )
 
 returns-2 : tie.Need-returns-2
 unfolding restOf
@@ -15,7 +21,8 @@ returns-2 c = simp (← c .before .before .before .before .section-at .ensures, 
 
 returns-3 : tie.Need-returns-3
 unfolding restOf
-returns-3 c = simp (← c .before .before .before .before .before .section-at .ensures, c .before .before .before .section2 .given .1, le-ltb _ _ (c .before .if1 .left))
+returns-3 c =
+    simp (← c .before .before .before .before .before .section-at .ensures, c .before .before .before .section2 .given .1, le-ltb _ _ (c .before .if1 .left))
 
 pub read-rest-spec : {M : Type 1} → statement M
 read-rest-spec =

@@ -1,4 +1,5 @@
--- `reader::section::records` meets its contract: the invariant: reading on from here gives what reading from the first place gives. The measure is the places left. Assumes nothing.
+-- `reader::section::records` meets its contract: the invariant: reading on from here gives what reading from the first place gives. The
+-- measure is the places left. Assumes nothing.
 use borrow.Author.Needs.{needs}
 use mathlib.Core.Path.{_≡_, refl, sym, ap, _∙_}
 use native.Mathlib.Omega.{arith}

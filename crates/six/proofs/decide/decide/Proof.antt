@@ -25,9 +25,14 @@ returns c =
     let a = c .before .before .before .before .args in
     let on = c .before .before .before .every in
     let need = c .before .before .every2 in
-    let kept = kept-is (a .flags) (a .met) (a .frees) (a .ready) (a .acks) (on .result) (need .result) (a .enabled) (a .required) (on .ensures) (need .ensures) in
-    let events = events-is (a .flags) (a .met) (a .frees) (a .ready) (a .acks) (on .result) (need .result) (a .enabled) (a .required) (on .ensures) (need .ensures) in
-    (ap₂ (λ (k e : ℕ). record { kept = k; events = e }) (c .before .threes .ensures .0 ∙ kept) (c .threes2 .ensures .0 ∙ events), c .before .threes .ensures .1, c .threes2 .ensures .1)
+    let kept =
+    kept-is (a .flags) (a .met) (a .frees) (a .ready) (a .acks) (on .result) (need .result) (a .enabled) (a .required) (on .ensures) (need .ensures) in
+    let events =
+    events-is (a .flags) (a .met) (a .frees) (a .ready) (a .acks) (on .result) (need .result) (a .enabled) (a .required) (on .ensures) (need .ensures) in (
+      ap₂ (λ (k e : ℕ). record { kept = k; events = e }) (c .before .threes .ensures .0 ∙ kept) (c .threes2 .ensures .0 ∙ events),
+      c .before .threes .ensures .1,
+      c .threes2 .ensures .1,
+    )
 
 pub decide-spec : {M : Type 1} → statement M
 decide-spec = tie.close (tie.spec (λ c κs. search needs) (λ c κs. search needs) threes-requires threes-requires-2 returns)

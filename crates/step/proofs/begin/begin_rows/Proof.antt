@@ -11,7 +11,8 @@ use Rattle.step.proofs.begin.begin_rows.Tie as tie
 
 returns : tie.Need-returns
 returns c =
-    let a = c .before .before .before .before .before .before .before .before .before .before .before .before .before .before .before .before .before .before .before .before .before .before .before .before .before .args in
+    let half = c .before .before .before .before .before .before .before .before .before .before .before .before in
+    let a = half .before .before .before .before .before .before .before .before .before .before .before .before .before .args in
     let w = a .begins in
     rw (bit-zero w)
     (six-kept (eqb (w % 2) 1) (bit w 3) (bit w 6) (bit w 9) (bit w 12) (bit w 15) (a .time) (a .at) (now (a .states)) (c .before .before .before .before .before .before .before .before .before .before .before .before .before .before .before .before .before .before .before .before .before .before .begin .ensures)

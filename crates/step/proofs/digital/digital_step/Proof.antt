@@ -36,32 +36,42 @@ returns c =
     let watched = ap (λ (v : ℕ). eqb (v % 2) 1) (c .before .before .before .flags-in .ensures) ∙ sym (bit-zero (a .flags)) in
     let met′ = c .before .before .is-bit .ensures ∙ ap (λ (b : Bool). isBit b (g .reading)) watched in
     let rests = and-true _ _ (c .if1 .taken) in
-    digital-rest-done a (now (g .states)) (g .at) (g .reading) (g .word) (g .time) met′ (eqb-true _ _ (rests .0)) (eqb-true _ _ (sym (c .before .rests .ensures) ∙ rests .1))
+    digital-rest-done a (now (g .states)) (g .at) (g .reading) (g .word) (g .time) met′ (eqb-true _ _ (rests .0))
+    (eqb-true _ _ (sym (c .before .rests .ensures) ∙ rests .1))
 
 returns-2 : tie.Need-returns-2
 unfolding modeBits digitalStep alarmIn stateIn
 returns-2 c =
-    let g = c .before .before .before .before .before .before .before .before .before .before .before .before .before .before .before .before .before .before .before .before .before .before .args in
+    let half = c .before .before .before .before .before .before .before .before .before .before .before in
+    let g = half .before .before .before .before .before .before .before .before .before .before .before .args in
     let ws : List ℕ = now (g .states) in
     let a : Alarm = alarmIn DigitalForm (now (g .settings)) (g .from) in
     let s : State = stateIn ws (g .at) in
     let x : Reading = g .reading in
     let low = c .before .before .before .before .before .before .before .before .before .before .before .before .before .lower .ensures in
     let up = c .before .before .before .before .before .before .before .before .before .before .before .before .upper .ensures in
-    let set = c .before .before .before .before .before .before .before .before .before .before .before .before .before .before .before .before .before .before .flags-in .ensures in
-    let m : c .before .before .before .before .before .before .before .before .before .before .before .modes .result ≡ wordOf (modeBits (bit (s .flags) 0) (bit (s .flags) 1) (g .word) (s .previous)) =
-    c .before .before .before .before .before .before .before .before .before .before .before .modes .ensures .0 ∙ (λ i. wordOf (modeBits (bit (low i) 0) (bit (low i) 1) (g .word) (up i)))
+    let half = c .before .before .before .before .before .before .before .before .before in
+    let set = half .before .before .before .before .before .before .before .before .before .flags-in .ensures in
+    let m : c .before .before .before .before .before .before .before .before .before .before .before .modes .result
+    ≡ wordOf (modeBits (bit (s .flags) 0) (bit (s .flags) 1) (g .word) (s .previous)) =
+    c .before .before .before .before .before .before .before .before .before .before .before .modes .ensures .0
+    ∙ (λ i. wordOf (modeBits (bit (low i) 0) (bit (low i) 1) (g .word) (up i)))
     in
     let disabled = word-low _ _ m in
     let watched = ap (λ (v : ℕ). eqb (v % 2) 1) set ∙ sym (bit-zero (a .flags)) in
-    let met′ = c .before .before .before .before .before .before .before .before .before .before .before .before .before .before .before .before .before .is-bit .ensures ∙ ap (λ (b : Bool). isBit b x) watched in
+    let half = c .before .before .before .before .before .before .before .before in
+    let met′ = half .before .before .before .before .before .before .before .before .before .is-bit .ensures ∙ ap (λ (b : Bool). isBit b x) watched in
     let reset = c .before .before .before .before .before .before .before .before .before .before .resets-one .ensures ∙ ap (resets (g .word)) up in
-    let start = c .before .before .before .before .before .before .before .before .before .choose .ensures ∙ ap (λ (f : ℕ). cond (bit f 8) (s .hh) (g .time)) low in
-    let ready = c .before .before .before .before .before .before .before .lasted .ensures ∙ (λ i. leb (c .before .before .before .before .before .before .before .before .duration-in .ensures i) (g .time - start i)) in
+    let start =
+    c .before .before .before .before .before .before .before .before .before .choose .ensures ∙ ap (λ (f : ℕ). cond (bit f 8) (s .hh) (g .time)) low in
+    let ready =
+    c .before .before .before .before .before .before .before .lasted .ensures
+    ∙ (λ i. leb (c .before .before .before .before .before .before .before .before .duration-in .ensures i) (g .time - start i)) in
     let ack = c .before .before .before .before .before .before .acks-all .ensures ∙ ap (acksAll (g .word)) up in
     let alarm = ap (λ (f : ℕ). bit (f / 64) 0) low ∙ bit-shift (s .flags) 6 0 in
     let unacked = ap (λ (f : ℕ). bit (f / 64) 1) low ∙ bit-shift (s .flags) 6 1 in
-    let outcome : c .before .before .before .before .before .condition .result ≡ wordOf (outcomeBits (digitalTold a x (g .word) (g .time) (lookDigital s)) (bit (s .flags) 6) (bit (s .flags) 7)) =
+    let outcome : c .before .before .before .before .before .condition .result
+    ≡ wordOf (outcomeBits (digitalTold a x (g .word) (g .time) (lookDigital s)) (bit (s .flags) 6) (bit (s .flags) 7)) =
     c .before .before .before .before .before .condition .ensures .0
     ∙ (λ i.
     wordOf (outcomeBits (record { enabled = not (disabled i); met = met′ i; frees = not (bit (set i) 2) || reset i; ready = ready i; ack = ack i; required = bit (set i) 1 }) (alarm i) (unacked i)))

@@ -12,7 +12,9 @@ use Rattle.step.proofs.sample.resample.Tie as tie
 returns : tie.Need-returns
 returns c =
     let a = c .before .before .before .before .before .before .args in
-    let kept = sample-stays (now (a .states)) (a .at) (a .flags) (a .period) (a .time) (a .enabled) (a .x) (c .before .before .stays-in .ensures) (c .before .if1 .taken) in
+    let kept =
+    sample-stays (now (a .states)) (a .at) (a .flags) (a .period) (a .time) (a .enabled) (a .x) (c .before .before .stays-in .ensures)
+    (c .before .if1 .taken) in
     (c .upper .ensures ∙ kept .0, kept .1)
 
 slice-write-states-2 : tie.Need-slice-write-states-2
@@ -22,9 +24,20 @@ returns-2 : tie.Need-returns-2
 returns-2 c =
     let a = c .before .before .before .before .before .before .before .before .before .before .args in
     let stays = c .before .before .before .before .before .before .stays-in .ensures in
-    let rate = c .before .before .before .before .new-rate .ensures ∙ rate-changes (now (a .states)) (a .at) (a .flags) (a .period) (a .time) (a .enabled) (a .x) stays (c .before .before .before .before .before .if1 .left) in (
+    let rate =
+    c .before .before .before .before .new-rate .ensures
+    ∙ rate-changes (now (a .states)) (a .at) (a .flags) (a .period) (a .time) (a .enabled) (a .x) stays
+    (c .before .before .before .before .before .if1 .left) in (
       rate,
-      rw (c .choose .ensures, c .before .pair .ensures .0, c .before .before .value-in .ensures, c .before .before .before .lower .ensures, stays, rate, add-one),
+      rw (
+        c .choose .ensures,
+        c .before .pair .ensures .0,
+        c .before .before .value-in .ensures,
+        c .before .before .before .lower .ensures,
+        stays,
+        rate,
+        add-one,
+      ),
     )
 
 pub resample-spec : {M : Type 1} → statement M
