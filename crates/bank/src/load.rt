@@ -1,6 +1,7 @@
 // A bank made of a settings image, in words that a caller lends.
 ghost use mathlib.Core.Path.{_≡_};
 ghost use lib.ListN.{length, replicate};
+ghost use Rattle.layout.specs.Internal.Sizes.{marksSize, settingsSize, statesSize};
 ghost use Rattle.layout.specs.Internal.Block.{settingsWords};
 ghost use Rattle.reader.specs.Read.{readOf};
 ghost use Rattle.bank.specs.Internal.Words.{wordsIn};
@@ -16,11 +17,11 @@ use settings::reply::Reply;
 
 // Writes the three blocks, which have the right lengths.
 fn load_blocks(image: &[u8], settings: &mut [u64], states: &mut [u64], marks: &mut [u64]) -> Reply
-    requires { ⌜ (length (now settings) ≡ 292) × (length (now states) ≡ 580) × (length (now marks) ≡ 900) ⌝ }
+    requires { ⌜ (length (now settings) ≡ settingsSize) × (length (now states) ≡ statesSize) × (length (now marks) ≡ marksSize) ⌝ }
     ensures { λ r. ⌜ r ≡ readOf (now (image .entry)) .reply ⌝ }
     ensures { λ _. ⌜ now (settings .exit) ≡ settingsWords (readOf (now (image .entry)) .settings) ⌝ }
-    ensures { λ _. ⌜ now (states .exit) ≡ replicate 580 0 ⌝ }
-    ensures { λ _. ⌜ now (marks .exit) ≡ replicate 900 0 ⌝ }
+    ensures { λ _. ⌜ now (states .exit) ≡ replicate statesSize 0 ⌝ }
+    ensures { λ _. ⌜ now (marks .exit) ≡ replicate marksSize 0 ⌝ }
 {
     let loaded = read(image);
     let given = loaded.settings;

@@ -3,6 +3,8 @@ ghost use mathlib.Core.Path.{_≡_};
 ghost use Prim.Native.Nat.{_+_, _≤_, _<_};
 ghost use lib.ListN.{length};
 ghost use lib.Seq.{sets, slice};
+ghost use Rattle.layout.specs.Internal.Sizes.{settingsSize};
+ghost use Rattle.settings.specs.Alarm.{allMost};
 ghost use Rattle.wire.specs.Internal.Words.{words};
 ghost use Rattle.settings_record.specs.Record.{wordPlace, sizeOf};
 ghost use Rattle.image.specs.Internal.Write.{severityWords, limitWords, digitalBytes, analogBytes, recordBytes, recordsBytes, sectionBytes, readAs, sizeOfImage, hasRoom, writtenOf, imageBuffer, writeOf, writeBuffer};
@@ -151,7 +153,7 @@ fn put_records(
     end: usize,
     words: &[u64],
 ) -> usize
-    requires { ⌜ (end ≤ 24) × (length (now words) ≡ 292) ⌝ }
+    requires { ⌜ (end ≤ allMost) × (length (now words) ≡ settingsSize) ⌝ }
     requires { ⌜ start + length (recordsBytes form (slice first end (readAs form (now words)))) ≤ length (now out) ⌝ }
     ensures { λ r. ⌜ r ≡ start + length (recordsBytes form (slice first end (readAs form (now (words .entry))))) ⌝ }
     ensures { λ _. ⌜ now (out .exit) ≡ sets (now (out .entry)) start (recordsBytes form (slice first end (readAs form (now (words .entry))))) ⌝ }
@@ -174,7 +176,7 @@ fn put_section(
     count: usize,
     words: &[u64],
 ) -> usize
-    requires { ⌜ (first ≤ 12) × (count ≤ 12) × (length (now words) ≡ 292) ⌝ }
+    requires { ⌜ (first ≤ 12) × (count ≤ 12) × (length (now words) ≡ settingsSize) ⌝ }
     requires { ⌜ at + length (sectionBytes form first count (readAs form (now words))) ≤ length (now out) ⌝ }
     ensures { λ r. ⌜ r ≡ at + length (sectionBytes form first count (readAs form (now (words .entry)))) ⌝ }
     ensures { λ _. ⌜ now (out .exit) ≡ sets (now (out .entry)) at (sectionBytes form first count (readAs form (now (words .entry)))) ⌝ }
@@ -203,7 +205,7 @@ fn has_room(digital: usize, analog: usize, len: usize) -> bool
 
 // Writes the image of the settings in a block.
 fn write_block(words: &[u64], out: &mut [u8]) -> Written
-    requires { ⌜ length (now words) ≡ 292 ⌝ }
+    requires { ⌜ length (now words) ≡ settingsSize ⌝ }
     ensures { λ r. ⌜ r ≡ writtenOf (settingsIn (now (words .entry))) (length (now (out .entry))) ⌝ }
     ensures { λ _. ⌜ now (out .exit) ≡ imageBuffer (settingsIn (now (words .entry))) (now (out .entry)) ⌝ }
 {

@@ -3,6 +3,8 @@ ghost use mathlib.Core.Path.{_≡_};
 ghost use Prim.Native.Nat.{_≤_};
 ghost use lib.ListN.{length, getD, replicate};
 ghost use lib.Seq.{sets};
+ghost use Rattle.layout.specs.Internal.Sizes.{settingsSize};
+ghost use Rattle.settings.specs.Alarm.{allMost};
 ghost use Rattle.layout.specs.Internal.Block.{layoutWord, headWords, alarmsWords, settingsWords, Says, isBlock};
 use crate::put::put_alarm;
 use crate::sizes::ALARM_WORDS;
@@ -11,6 +13,7 @@ use crate::sizes::DIGITAL_COUNT;
 use crate::sizes::LAYOUT_WORD;
 use crate::sizes::SETTINGS_HEAD;
 use crate::sizes::SETTINGS_WORDS;
+use settings::counts::ALARMS;
 use settings::types::Alarm;
 use settings::types::Settings;
 
@@ -48,14 +51,14 @@ fn put_head(words: &mut [u64], digital: usize, analog: usize)
 }
 
 // Writes each alarm at its place. The array's length is said for the caller, who holds it in a struct and doesn't see it.
-fn put_alarms(words: &mut [u64], alarms: [Alarm; 24])
-    requires { ⌜ length (now words) ≡ 292 ⌝ }
+fn put_alarms(words: &mut [u64], alarms: [Alarm; ALARMS])
+    requires { ⌜ length (now words) ≡ settingsSize ⌝ }
     ensures { λ _. ⌜ now (words .exit) ≡ sets (now (words .entry)) 4 (alarmsWords alarms) ⌝ }
-    ensures { λ _. ⌜ Says alarms 24 (now (words .exit)) ⌝ }
-    ensures { λ _. ⌜ length alarms ≡ 24 ⌝ }
+    ensures { λ _. ⌜ Says alarms allMost (now (words .exit)) ⌝ }
+    ensures { λ _. ⌜ length alarms ≡ allMost ⌝ }
 {
     let mut place = 0;
-    while place < 24 {
+    while place < ALARMS {
         put_alarm(words, SETTINGS_HEAD + ALARM_WORDS * place, alarms[place]);
         place += 1;
     }
@@ -63,9 +66,9 @@ fn put_alarms(words: &mut [u64], alarms: [Alarm; 24])
 
 // Writes the whole block. The counts are written as they are, and the places behind the 24 of settings are 0.
 pub fn put_settings(words: &mut [u64], settings: Settings)
-    requires { ⌜ length (now words) ≡ 292 ⌝ }
+    requires { ⌜ length (now words) ≡ settingsSize ⌝ }
     ensures { λ _. ⌜ now (words .exit) ≡ settingsWords settings ⌝ }
-    ensures { λ _. ⌜ Says (settings .alarms) 24 (now (words .exit)) ⌝ }
+    ensures { λ _. ⌜ Says (settings .alarms) allMost (now (words .exit)) ⌝ }
     ensures { λ _. ⌜ (getD (now (words .exit)) 0 0 ≡ layoutWord) × (getD (now (words .exit)) 1 0 ≡ settings .digital) × (getD (now (words .exit)) 2 0 ≡ settings .analog) ⌝ }
 {
     let alarms = settings.alarms;

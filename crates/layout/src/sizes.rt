@@ -14,7 +14,7 @@ pub const ANALOG_COUNT: usize = 2;
 // The words of an alarm's settings.
 pub const ALARM_WORDS: usize = 8;
 
-pub const SETTINGS_WORDS: usize = 292;
+pub const SETTINGS_WORDS: usize = SETTINGS_HEAD + ALARM_WORDS * PLACES;
 
 // The letters MEIFGUR1, the first in the highest byte.
 pub const LAYOUT_WORD: u64 = 0x4D45_4946_4755_5231;
@@ -25,9 +25,9 @@ pub const STATES_HEAD: usize = 4;
 // The words of an alarm's state: 11, and room for more.
 pub const STATE_WORDS: usize = 16;
 
-pub const STATES_WORDS: usize = 580;
+pub const STATES_WORDS: usize = STATES_HEAD + STATE_WORDS * PLACES;
 
 // The words of an alarm's counts and stamps.
 pub const MARK_WORDS: usize = 25;
 
-pub const MARKS_WORDS: usize = 900;
+pub const MARKS_WORDS: usize = MARK_WORDS * PLACES;

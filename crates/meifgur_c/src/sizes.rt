@@ -1,5 +1,6 @@
 // Sizes that a caller needs before it lends buffers.
 ghost use mathlib.Core.Path.{_≡_};
+ghost use Rattle.layout.specs.Internal.Sizes.{marksSize, settingsSize, statesSize};
 ghost use Rattle.scan_record.specs.Internal.Size.{lengthOf};
 use scan_record::check::record_length;
 
@@ -46,21 +47,21 @@ pub extern "C" fn meifgur_report_size() -> u32
 // Words of a bank's settings, of its states, and of its counts and stamps (the lengths that `fitOf` of crates/bank asks for).
 #[no_mangle]
 pub extern "C" fn meifgur_settings_words() -> u32
-    ensures { λ r. ⌜ r ≡ 292 ⌝ }
+    ensures { λ r. ⌜ r ≡ settingsSize ⌝ }
 {
     292
 }
 
 #[no_mangle]
 pub extern "C" fn meifgur_states_words() -> u32
-    ensures { λ r. ⌜ r ≡ 580 ⌝ }
+    ensures { λ r. ⌜ r ≡ statesSize ⌝ }
 {
     580
 }
 
 #[no_mangle]
 pub extern "C" fn meifgur_marks_words() -> u32
-    ensures { λ r. ⌜ r ≡ 900 ⌝ }
+    ensures { λ r. ⌜ r ≡ marksSize ⌝ }
 {
     900
 }

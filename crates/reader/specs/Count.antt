@@ -4,6 +4,7 @@ use mathlib.Core.List.{List}
 use mathlib.Core.Bool.{cond}
 use lib.Dec.{ltb, leb}
 use lib.ListN.{length, getD}
+use Rattle.settings.specs.Alarm.{eachMost}
 use Rattle.settings.specs.Refusals.{refusal}
 use Rattle.reader.specs.declared.count.Count.{Count}
 use Rattle.reader.specs.declared.count.Count.the-variants.{Alarms, Refused}
@@ -12,5 +13,5 @@ use Rattle.reader.specs.declared.count.Count.the-variants.{Alarms, Refus
 unfoldable pub countAt : List ℕ → ℕ → Count
 countAt image at =
     cond (ltb at (length image))
-    (cond (leb (getD image at 0) 12) (Alarms (getD image at 0) (at + 1)) (Refused (refusal 2 at)))
+    (cond (leb (getD image at 0) eachMost) (Alarms (getD image at 0) (at + 1)) (Refused (refusal 2 at)))
     (Refused (refusal 1 at))

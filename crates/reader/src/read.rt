@@ -4,6 +4,7 @@ ghost use Prim.Native.Nat.{_≤_};
 ghost use Rattle.reader.specs.Read.{readOf, restOf, refusedBy};
 use crate::section::Section;
 use crate::section::section_at;
+use settings::counts::ALARMS;
 use settings::refusals::LEFT_OVER;
 use settings::reply::Refusal;
 use settings::reply::Reply;
@@ -29,7 +30,7 @@ fn refused(refusal: Refusal) -> Loaded
 }
 
 // What follows the digital section.
-fn read_rest(image: &[u8], digital: usize, at: usize, given: [Alarm; 24]) -> Loaded
+fn read_rest(image: &[u8], digital: usize, at: usize, given: [Alarm; ALARMS]) -> Loaded
     requires { ⌜ digital ≤ 12 ⌝ }
     ensures { λ r. ⌜ r ≡ restOf (now (image .entry)) digital at given ⌝ }
 {

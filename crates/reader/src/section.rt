@@ -1,9 +1,11 @@
 // A section of a settings image: its count, then a record for each alarm.
 ghost use mathlib.Core.Path.{_≡_};
 ghost use Prim.Native.Nat.{_+_, _-_, _≤_};
+ghost use Rattle.settings.specs.Alarm.{allMost};
 ghost use Rattle.reader.specs.Section.{recordsFrom, sectionAt};
 use crate::count::Count;
 use crate::count::count_at;
+use settings::counts::ALARMS;
 use settings::reply::Refusal;
 use settings::types::Alarm;
 use settings::types::Form;
@@ -18,7 +20,7 @@ pub enum Section {
 
 // A section's answer, and the alarms with those that were read in their places.
 pub struct Filled {
-    pub alarms: [Alarm; 24],
+    pub alarms: [Alarm; ALARMS],
     pub section: Section,
 }
 
@@ -29,10 +31,10 @@ fn records(
     form: Form,
     first: usize,
     end: usize,
-    given: [Alarm; 24],
+    given: [Alarm; ALARMS],
 ) -> Filled
     requires { ⌜ first ≤ end ⌝ }
-    requires { ⌜ end ≤ 24 ⌝ }
+    requires { ⌜ end ≤ allMost ⌝ }
     ensures { λ r. ⌜ r ≡ recordsFrom form (now (image .entry)) (end - first) (end - first) first at given ⌝ }
 {
     let mut alarms = given;
@@ -55,7 +57,13 @@ fn records(
 }
 
 // Reads a section whose first alarm has the place `first`.
-pub fn section_at(image: &[u8], at: usize, form: Form, first: usize, given: [Alarm; 24]) -> Filled
+pub fn section_at(
+    image: &[u8],
+    at: usize,
+    form: Form,
+    first: usize,
+    given: [Alarm; ALARMS],
+) -> Filled
     requires { ⌜ first ≤ 12 ⌝ }
     ensures { λ r. ⌜ r ≡ sectionAt form (now (image .entry)) first at given ⌝ }
 {

@@ -2,6 +2,7 @@
 ghost use mathlib.Core.Path.{_≡_};
 ghost use Prim.Native.Nat.{_+_, _^_, _≤_, _<_, min};
 ghost use lib.ListN.{length};
+ghost use Rattle.layout.specs.Internal.Sizes.{marksSize, settingsSize, statesSize};
 ghost use Rattle.bank.specs.Internal.Words.{wordsIn};
 ghost use Rattle.replay.specs.Replay.{noneYet, counted, replied, replayOf, replayedOf, replayedWords, replayedBuffer};
 use bank::fit::fit;
@@ -121,7 +122,7 @@ fn run(
     bytes: &[u8],
     out: &mut [u8],
 ) -> Tally
-    requires { ⌜ (length (now settings) ≡ 292) × (length (now states) ≡ 580) × (length (now marks) ≡ 900) ⌝ }
+    requires { ⌜ (length (now settings) ≡ settingsSize) × (length (now states) ≡ statesSize) × (length (now marks) ≡ marksSize) ⌝ }
     ensures { λ r. ⌜ r ≡ replayOf (wordsIn (now (settings .entry)) (now (states .entry)) (now (marks .entry))) (now (bytes .entry))
         (now (out .entry)) .tally ⌝ }
     ensures { λ _. ⌜ now (states .exit) ≡ replayOf (wordsIn (now (settings .entry)) (now (states .entry)) (now (marks .entry))) (now (bytes .entry))

@@ -2,6 +2,7 @@
 ghost use mathlib.Core.Path.{_≡_};
 ghost use Prim.Native.Nat.{_+_, _*_, _≤_};
 ghost use lib.ListN.{length};
+ghost use Rattle.layout.specs.Internal.Sizes.{marksSize, settingsSize, statesSize};
 ghost use Rattle.settings.specs.Refusals.{refusal};
 ghost use Rattle.bank.specs.Internal.Words.{wordsIn, bankIn};
 ghost use Rattle.sweep.specs.Internal.Sweep.{Ready};
@@ -91,7 +92,7 @@ fn scan_bank(
     bytes: &[u8],
     out: &mut [u8],
 ) -> Answer
-    requires { ⌜ (length (now settings) ≡ 292) × (length (now states) ≡ 580) × (length (now marks) ≡ 900) ⌝ }
+    requires { ⌜ (length (now settings) ≡ settingsSize) × (length (now states) ≡ statesSize) × (length (now marks) ≡ marksSize) ⌝ }
     ensures { λ r. ⌜ r ≡ bankAnswer (wordsIn (now (settings .entry)) (now (states .entry)) (now (marks .entry))) (now (bytes .entry))
         (length (now (out .entry))) ⌝ }
     ensures { λ _. ⌜ now (states .exit) ≡ bankWords (wordsIn (now (settings .entry)) (now (states .entry)) (now (marks .entry))) (now (bytes .entry))

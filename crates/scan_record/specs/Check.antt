@@ -10,7 +10,7 @@ use Rattle.settings.specs.declared.reply.Reply.{Reply}
 use Rattle.settings.specs.declared.reply.Reply.the-variants.{Accepted, Refused as RefusedBy}
 use Rattle.settings.specs.declared.types.Reading.{Reading}
 use Rattle.scan_record.specs.Part.{timeOf, recordSize}
-use Rattle.settings.specs.Alarm.{formAt}
+use Rattle.settings.specs.Alarm.{formAt, eachMost}
 use Rattle.scan_record.specs.Entry.{entryAt}
 use Rattle.scan_record.specs.declared.entry.Entry.{Entry}
 use Rattle.scan_record.specs.declared.entry.Entry.the-variants.{Read, Refused}
@@ -29,7 +29,7 @@ checkFrom bytes digital (suc k) place at =
 
 -- the record has the length that the bank's alarms give it. (Counts over 12 stand in no bank that a call handed back; no record is theirs)
 unfoldable pub whole : ℕ → ℕ → ℕ → Bool
-whole digital analog len = leb digital 12 && leb analog 12 && eqb len (recordSize digital analog)
+whole digital analog len = leb digital eachMost && leb analog eachMost && eqb len (recordSize digital analog)
 
 -- a record, given the number of alarms and the time of the last accepted scan
 unfoldable pub checkRecord : ℕ → ℕ → ℕ → List ℕ → Reply

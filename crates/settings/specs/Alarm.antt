@@ -17,12 +17,19 @@ abbrev pub ackRequired : Kind → ℕ → Bool
 ackRequired (Digital severity) flags = bit flags 1
 ackRequired (Analog limits severities period) flags = bit flags 4
 
+-- how many alarms a section has at most, and a bank
+abbrev pub eachMost : ℕ
+eachMost = 12
+
+abbrev pub allMost : ℕ
+allMost = 24
+
 -- what stands in a place that no alarm has
 abbrev pub blank : Alarm
 blank = record { flags = 0; duration = 0; kind = Digital 0 }
 
 unfoldable pub blanks : List Alarm
-blanks = replicate 24 blank
+blanks = replicate allMost blank
 
 -- a bank without alarms
 unfoldable pub empty : Settings

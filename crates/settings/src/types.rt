@@ -1,6 +1,7 @@
 // An alarm's settings. DINTs are kept as stored, as the unsigned number of the same 32 bits.
 ghost use mathlib.Core.Path.{_≡_};
 ghost use Rattle.settings.specs.Alarm.{blank, blanks, empty};
+use crate::counts::ALARMS;
 
 // The limits, Deadband and rate limits of an analog alarm, which travel together.
 pub struct Limits {
@@ -58,7 +59,7 @@ pub enum Reading {
 pub struct Settings {
     pub digital: usize,
     pub analog: usize,
-    pub alarms: [Alarm; 24],
+    pub alarms: [Alarm; ALARMS],
 }
 
 pub fn blank_alarm() -> Alarm
@@ -72,11 +73,11 @@ pub fn blank_alarm() -> Alarm
     }
 }
 
-pub fn blank_alarms() -> [Alarm; 24]
+pub fn blank_alarms() -> [Alarm; ALARMS]
     ensures { λ r. ⌜ r ≡ blanks ⌝ }
 {
     let alarm = blank_alarm();
-    [alarm; 24]
+    [alarm; ALARMS]
 }
 
 // Settings without alarms.

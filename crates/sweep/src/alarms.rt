@@ -3,6 +3,8 @@ ghost use mathlib.Core.Path.{_≡_};
 ghost use Prim.Native.Nat.{_+_, _*_, _≤_};
 ghost use lib.ListN.{length};
 ghost use lib.Seq.{sets};
+ghost use Rattle.layout.specs.Internal.Sizes.{marksSize, settingsSize, statesSize};
+ghost use Rattle.settings.specs.Alarm.{allMost};
 ghost use Rattle.layout.specs.Internal.Block.{digitalIn};
 ghost use Rattle.scan_record.specs.Part.{timeOf, offsetOf};
 ghost use Rattle.scan_record.specs.Internal.Size.{entrySize};
@@ -28,7 +30,7 @@ fn scan_form(
     count: usize,
     time: u64,
 ) -> usize
-    requires { ⌜ (first + count ≤ 24) × (length (now settings) ≡ 292) × (length (now states) ≡ 580) × (length (now marks) ≡ 900) ⌝ }
+    requires { ⌜ (first + count ≤ allMost) × (length (now settings) ≡ settingsSize) × (length (now states) ≡ statesSize) × (length (now marks) ≡ marksSize) ⌝ }
     requires { ⌜ (time ≡ timeOf (now bytes)) × (begin ≡ offsetOf (digitalIn (now settings)) first) × (begin + entrySize form * count ≤ length (now bytes)) ⌝ }
     requires { ⌜ HaveForm (digitalIn (now settings)) first count form ⌝ }
     requires { ⌜ start + length (logFrom (wordsIn (now settings) (now states) (now marks)) (now bytes) first count) ≤ length (now out) ⌝ }

@@ -3,6 +3,8 @@ ghost use mathlib.Core.Path.{_≡_};
 ghost use Prim.Native.Nat.{_+_, _≤_, _<_};
 ghost use lib.ListN.{length};
 ghost use lib.Seq.{sets};
+ghost use Rattle.layout.specs.Internal.Sizes.{marksSize, settingsSize, statesSize};
+ghost use Rattle.settings.specs.Alarm.{allMost};
 ghost use Rattle.scan_record.specs.Internal.Size.{entrySize};
 ghost use Rattle.sweep.specs.Internal.Sweep.{stateLog, stateMarks, placeStep, placeStates, placeLog, placeMarks};
 use event::write::put_events;
@@ -32,7 +34,7 @@ fn step_form(
     place: usize,
     time: u64,
 ) -> u32
-    requires { ⌜ (place < 24) × (length (now settings) ≡ 292) × (length (now states) ≡ 580) × (at + entrySize form ≤ length (now bytes)) ⌝ }
+    requires { ⌜ (place < allMost) × (length (now settings) ≡ settingsSize) × (length (now states) ≡ statesSize) × (at + entrySize form ≤ length (now bytes)) ⌝ }
     ensures { λ r. ⌜ r ≡ placeStep form (now (settings .entry)) (now (states .entry)) (now (bytes .entry)) at place time .events ⌝ }
     ensures { λ _. ⌜ now (states .exit) ≡ placeStates form (now (settings .entry)) (now (states .entry)) (now (bytes .entry)) at place time ⌝ }
 {
@@ -65,7 +67,7 @@ fn log_place(
     events: u32,
     time: u64,
 ) -> usize
-    requires { ⌜ (place < 24) × (length (now settings) ≡ 292) × (length (now states) ≡ 580) × (length (now marks) ≡ 900) ⌝ }
+    requires { ⌜ (place < allMost) × (length (now settings) ≡ settingsSize) × (length (now states) ≡ statesSize) × (length (now marks) ≡ marksSize) ⌝ }
     requires { ⌜ used + length (stateLog form (now settings) (now states) place events time) ≤ length (now out) ⌝ }
     ensures { λ r. ⌜ r ≡ used + length (stateLog form (now (settings .entry)) (now (states .entry)) place events time) ⌝ }
     ensures { λ _. ⌜ now (marks .exit) ≡ stateMarks form (now (settings .entry)) (now (states .entry)) place events time (now (marks .entry)) ⌝ }
@@ -113,7 +115,7 @@ pub fn step_place(
     place: usize,
     time: u64,
 ) -> usize
-    requires { ⌜ (place < 24) × (length (now settings) ≡ 292) × (length (now states) ≡ 580) × (length (now marks) ≡ 900) ⌝ }
+    requires { ⌜ (place < allMost) × (length (now settings) ≡ settingsSize) × (length (now states) ≡ statesSize) × (length (now marks) ≡ marksSize) ⌝ }
     requires { ⌜ (at + entrySize form ≤ length (now bytes)) ×
         (used + length (placeLog form (now settings) (now states) (now bytes) at place time) ≤ length (now out)) ⌝ }
     ensures { λ r. ⌜ r ≡ used + length (placeLog form (now (settings .entry)) (now (states .entry)) (now (bytes .entry)) at place time) ⌝ }

@@ -2,6 +2,7 @@
 use Prim.Native.Nat.{ℕ}
 use mathlib.Core.List.{List}
 use lib.ListN.{replicate}
+use Rattle.layout.specs.Internal.Sizes.{marksSize}
 use Rattle.reader.specs.Read.{readOf}
 use Rattle.settings.specs.declared.types.Settings.{Settings}
 use Rattle.settings.specs.declared.reply.Reply.{Reply}
@@ -23,7 +24,7 @@ pub record Loaded : Type 0 where
 
 -- no scan was accepted yet: time, states, counts and stamps are 0
 unfoldable pub freshBank : Settings → Bank
-freshBank s = record { settings = s; time = 0; states = replicate 24 freshState; marks = replicate 900 0 }
+freshBank s = record { settings = s; time = 0; states = replicate 24 freshState; marks = replicate marksSize 0 }
 
 -- the bank of a settings image; of a refused one a bank without alarms
 unfoldable pub loadOf : List ℕ → Loaded

@@ -4,6 +4,7 @@ use mathlib.Core.Bool.{cond}
 use mathlib.Core.List.{List}
 use lib.Dec.{eqb}
 use lib.ListN.{length, getD, replicate}
+use Rattle.layout.specs.Internal.Sizes.{marksSize, statesSize}
 use Rattle.settings.specs.declared.reply.Refusal.{Refusal}
 use Rattle.settings.specs.declared.reply.Reply.{Reply}
 use Rattle.settings.specs.declared.reply.Reply.the-variants.{Accepted, Refused as RefusedBy}
@@ -26,7 +27,7 @@ onReply (RefusedBy r) x f = f r
 unfoldable pub fitOf : Words → Reply
 fitOf w =
     cond (isBlock (w .settings))
-    (cond (eqb (length (w .states)) 580) (cond (eqb (length (w .marks)) 900) Accepted (RefusedBy (noBank 2))) (RefusedBy (noBank 1)))
+    (cond (eqb (length (w .states)) statesSize) (cond (eqb (length (w .marks)) marksSize) Accepted (RefusedBy (noBank 2))) (RefusedBy (noBank 1)))
     (RefusedBy (noBank 0))
 
 -- ---- the bank that they stand for

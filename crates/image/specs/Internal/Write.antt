@@ -10,7 +10,7 @@ use Rattle.wire.specs.Internal.Words.{words}
 use Rattle.settings.specs.Refusals.{refusal}
 use Rattle.settings_record.specs.Record.{sizeOf}
 use Rattle.layout.specs.Internal.Block.{noBank}
-use Rattle.settings.specs.Alarm.{blanks}
+use Rattle.settings.specs.Alarm.{blanks, eachMost}
 use Rattle.layout.specs.Internal.Words.{alarmIn}
 use Rattle.layout.specs.Internal.Block.{placed, alarmAt, settingsIn, isBlock}
 use Rattle.settings.specs.declared.types.Limits.{Limits}
@@ -69,7 +69,7 @@ sizeOfImage d a = 2 + sizeOf DigitalForm * d + sizeOf AnalogForm * a
 
 -- the buffer is long enough. (Counts over 12 stand in no accepted settings, and have no image)
 unfoldable pub hasRoom : ℕ → ℕ → ℕ → Bool
-hasRoom d a n = leb d 12 && leb a 12 && leb (sizeOfImage d a) n
+hasRoom d a n = leb d eachMost && leb a eachMost && leb (sizeOfImage d a) n
 
 -- the image's length, or 13
 unfoldable pub writtenOf : Settings → ℕ → Written

@@ -5,6 +5,7 @@ use mathlib.Core.Bool.{Bool, _&&_}
 use mathlib.Core.List.{List, [], _∷_, _++_}
 use lib.Dec.{eqb}
 use lib.ListN.{length, getD, set, replicate}
+use Rattle.layout.specs.Internal.Sizes.{settingsSize}
 use Rattle.settings.specs.Refusals.{refusal}
 use Rattle.settings.specs.declared.reply.Refusal.{Refusal}
 use Rattle.settings.specs.Alarm.{blank, blanks, formAt}
@@ -65,7 +66,7 @@ settingsIn ws = record { digital = digitalIn ws; analog = analogIn ws; alarms = 
 
 -- a block that a call wrote: its length is right, and its first word says this layout
 abbrev pub isBlock : List ℕ → Bool
-isBlock ws = eqb (length ws) 292 && eqb (getD ws 0 0) layoutWord
+isBlock ws = eqb (length ws) settingsSize && eqb (getD ws 0 0) layoutWord
 
 -- lent blocks that hold no bank. The place is the block: 0 settings, 1 states, 2 counts and stamps
 abbrev pub noBank : ℕ → Refusal

@@ -3,7 +3,7 @@ use Prim.Native.Nat.{ℕ, _+_, _-_, _*_}
 use mathlib.Core.Bool.{Bool, _&&_, cond}
 use lib.Dec.{leb}
 use lib.ListN.{getD}
-use Rattle.settings.specs.Alarm.{blank}
+use Rattle.settings.specs.Alarm.{blank, eachMost}
 use Rattle.settings.specs.declared.reply.Reply.the-variants.{Accepted}
 use Rattle.step.specs.Internal.Held.{freshState}
 use Rattle.bank.specs.Internal.Bank.{Bank}
@@ -16,7 +16,7 @@ use Rattle.report.specs.declared.report.AlarmReport.{AlarmReport}
 
 -- alarms are numbered from 1. (Counts over 12 stand in no bank that a call handed back)
 unfoldable pub isThere : ℕ → ℕ → ℕ → Bool
-isThere digital analog n = leb digital 12 && leb analog 12 && (leb 1 n && leb n (digital + analog))
+isThere digital analog n = leb digital eachMost && leb analog eachMost && (leb 1 n && leb n (digital + analog))
 
 -- the alarm at a place
 unfoldable pub reportAt : Bank → ℕ → AlarmReport

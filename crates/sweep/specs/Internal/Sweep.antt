@@ -4,6 +4,7 @@ use mathlib.Core.Path.{_≡_}
 use mathlib.Core.List.{List, [], _++_}
 use lib.ListN.{length, set}
 use lib.Seq.{sets}
+use Rattle.layout.specs.Internal.Sizes.{marksSize, settingsSize, statesSize}
 use Rattle.wire.specs.Bits.{bit}
 use Rattle.settings.specs.Alarm.{ackRequired, formAt}
 use Rattle.settings.specs.declared.types.Alarm.{Alarm}
@@ -64,9 +65,9 @@ module _ (form : Form) (settings states rec : List ℕ) (at p time : ℕ) where
 pub record Ready (w : Words) (rec : List ℕ) (digital analog : ℕ) : Type 0 where
   pub digital-most : digital ≤ 12
   pub analog-most : analog ≤ 12
-  pub settings-long : length (w .settings) ≡ 292
-  pub states-long : length (w .states) ≡ 580
-  pub marks-long : length (w .marks) ≡ 900
+  pub settings-long : length (w .settings) ≡ settingsSize
+  pub states-long : length (w .states) ≡ statesSize
+  pub marks-long : length (w .marks) ≡ marksSize
   pub digital-is : digital ≡ digitalIn (w .settings)
   pub analog-is : analog ≡ analogIn (w .settings)
   pub record-long : length rec ≡ recordSize digital analog
