@@ -8,6 +8,7 @@ use borrow.Author.Tests.{eqb-true}
 use lib.Dec.{eqb}
 use lib.ListN.{length, getD, set, replicate, length-set, length-replicate}
 use lib.Seq.{getD-set-same, getD-set-other}
+use Rattle.layout.proofs.Laws.{placed-below}
 use Rattle.wire.proofs.Laws.{below, and-true}
 use Rattle.settings.specs.Alarm.{blank, blanks}
 use Rattle.layout.specs.Internal.Block.{noBank}
@@ -18,29 +19,6 @@ use Rattle.step.specs.Internal.Held.{freshState}
 use Rattle.step.specs.Internal.State.{stateIn, stateAt}
 use Rattle.bank.specs.Lent.{Words}
 use Rattle.bank.specs.Internal.Words.{fitOf, bankIn}
-
--- ---- elements that are placed one after the other
-
-module _ {X : Type 0} where
-  pub length-placed : (f : ℕ → X) (n : ℕ) (xs : List X) → length (placed f n xs) ≡ length xs
-  unfolding placed
-  length-placed f zero xs = refl
-  length-placed f (suc n) xs = length-set (placed f n xs) n (f n) ∙ length-placed f n xs
-
-  -- the rest stays
-  pub placed-above : (f : ℕ → X) (n i : ℕ) (xs : List X) (d : X) → n ≤ i → getD (placed f n xs) i d ≡ getD xs i d
-  unfolding placed
-  placed-above f zero i xs d h = refl
-  placed-above f (suc n) i xs d h = getD-set-other (placed f n xs) n i (f n) d (λ e. omega arith) ∙ placed-above f n i xs d (omega arith)
-
-  -- the first n are what f gives
-  pub placed-below : (f : ℕ → X) (n i : ℕ) (xs : List X) (d : X) → i < n → n ≤ length xs → getD (placed f n xs) i d ≡ f i
-  unfolding placed
-  placed-below f zero i xs d h l = absurd (omega arith)
-  placed-below f (suc n) i xs d h l =
-      below (λ (k : ℕ). getD (set (placed f n xs) n (f n)) k d ≡ f k) h
-      (getD-set-same (placed f n xs) n (f n) d (omega (arith, length-placed f n xs)))
-      (λ m. getD-set-other (placed f n xs) n i (f n) d (λ e. omega arith) ∙ placed-below f n i xs d m (omega arith))
 
 -- ---- the bank that words stand for
 

@@ -7,6 +7,7 @@ use native.Mathlib.Omega.{arith}
 use lib.Ieee.{binary32}
 use lib.Ieee.Bits.{ofBits-fits}
 use lib.ListN.{length, getD, replicate, length-replicate, getD-replicate}
+use Rattle.layout.proofs.Laws.{length-placed, placed-below}
 use Rattle.settings.specs.Internal.Reals.{realAnalog}
 use Rattle.wire.specs.Bits.{bit}
 use Rattle.wire.specs.Number.{number}
@@ -41,7 +42,6 @@ use Rattle.scan_record.proofs.Entries.{PartRead, all-read, accepted-says}
 use Rattle.marks.specs.Internal.Marks.{marksAt, turnAt}
 use Rattle.marks.proofs.Reading.{marks-length, mark-read, reset-read}
 use Rattle.scan.specs.Internal.Plan.{stepEntry, stepPart, stepAt, planOf}
-use Rattle.bank.proofs.Places.{length-placed, placed-below}
 use Rattle.scan.proofs.Plans.{word-at}
 use Rattle.bank.specs.Internal.Bank.{Bank, freshBank}
 use Rattle.scan.specs.Internal.Scan.{checkOf, alarmsOf, planFor, bankAfter}

@@ -2,7 +2,7 @@
 ghost use mathlib.Core.Path.{_≡_};
 ghost use Prim.Native.Nat.{_+_, _≤_};
 ghost use lib.ListN.{length};
-ghost use Rattle.layout.specs.Internal.Words.{flagsIn, durationIn, hhIn, hIn, lIn, llIn, deadbandIn, rocposIn, rocnegIn, periodIn, limitsIn, severityIn, severitiesIn, kindIn, alarmIn};
+ghost use Rattle.layout.specs.Internal.Words.{flagsIn, durationIn, periodIn, limitsIn, severityIn, severitiesIn, kindIn, alarmIn};
 use crate::half::lower;
 use crate::half::lower_real;
 use crate::half::lowest;
@@ -28,55 +28,6 @@ pub fn duration_in(words: &[u64], at: usize) -> u32
     upper(words[at])
 }
 
-pub fn hh_in(words: &[u64], at: usize) -> f32
-    requires { ⌜ at + 8 ≤ length (now words) ⌝ }
-    ensures { λ r. ⌜ r ≡ hhIn (now (words .entry)) at ⌝ }
-{
-    lower_real(words[at + 1])
-}
-
-pub fn h_in(words: &[u64], at: usize) -> f32
-    requires { ⌜ at + 8 ≤ length (now words) ⌝ }
-    ensures { λ r. ⌜ r ≡ hIn (now (words .entry)) at ⌝ }
-{
-    upper_real(words[at + 1])
-}
-
-pub fn l_in(words: &[u64], at: usize) -> f32
-    requires { ⌜ at + 8 ≤ length (now words) ⌝ }
-    ensures { λ r. ⌜ r ≡ lIn (now (words .entry)) at ⌝ }
-{
-    lower_real(words[at + 2])
-}
-
-pub fn ll_in(words: &[u64], at: usize) -> f32
-    requires { ⌜ at + 8 ≤ length (now words) ⌝ }
-    ensures { λ r. ⌜ r ≡ llIn (now (words .entry)) at ⌝ }
-{
-    upper_real(words[at + 2])
-}
-
-pub fn deadband_in(words: &[u64], at: usize) -> f32
-    requires { ⌜ at + 8 ≤ length (now words) ⌝ }
-    ensures { λ r. ⌜ r ≡ deadbandIn (now (words .entry)) at ⌝ }
-{
-    lower_real(words[at + 3])
-}
-
-pub fn rocpos_in(words: &[u64], at: usize) -> f32
-    requires { ⌜ at + 8 ≤ length (now words) ⌝ }
-    ensures { λ r. ⌜ r ≡ rocposIn (now (words .entry)) at ⌝ }
-{
-    upper_real(words[at + 3])
-}
-
-pub fn rocneg_in(words: &[u64], at: usize) -> f32
-    requires { ⌜ at + 8 ≤ length (now words) ⌝ }
-    ensures { λ r. ⌜ r ≡ rocnegIn (now (words .entry)) at ⌝ }
-{
-    lower_real(words[at + 4])
-}
-
 pub fn period_in(words: &[u64], at: usize) -> u32
     requires { ⌜ at + 8 ≤ length (now words) ⌝ }
     ensures { λ r. ⌜ r ≡ periodIn (now (words .entry)) at ⌝ }
@@ -84,18 +35,22 @@ pub fn period_in(words: &[u64], at: usize) -> u32
     upper(words[at + 4])
 }
 
+// The seven REALs, in pairs.
 pub fn limits_in(words: &[u64], at: usize) -> Limits
     requires { ⌜ at + 8 ≤ length (now words) ⌝ }
     ensures { λ r. ⌜ r ≡ limitsIn (now (words .entry)) at ⌝ }
 {
+    let highs = words[at + 1];
+    let lows = words[at + 2];
+    let bands = words[at + 3];
     Limits {
-        hh: hh_in(words, at),
-        h: h_in(words, at),
-        l: l_in(words, at),
-        ll: ll_in(words, at),
-        deadband: deadband_in(words, at),
-        rocpos: rocpos_in(words, at),
-        rocneg: rocneg_in(words, at),
+        hh: lower_real(highs),
+        h: upper_real(highs),
+        l: lower_real(lows),
+        ll: upper_real(lows),
+        deadband: lower_real(bands),
+        rocpos: upper_real(bands),
+        rocneg: lower_real(words[at + 4]),
     }
 }
 

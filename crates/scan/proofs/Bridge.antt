@@ -10,6 +10,7 @@ use native.Mathlib.Omega.{arith}
 use lib.Dec.{ltb}
 use lib.ListN.{length, getD, set, replicate, length-replicate}
 use lib.Seq.{sets, length-sets, getD-set-same, ext-getD}
+use Rattle.layout.proofs.Laws.{length-placed, placed-above, placed-below}
 use Rattle.wire.proofs.Laws.{below}
 use Rattle.settings.specs.Alarm.{blank, formAt}
 use Rattle.settings.specs.declared.types.Alarm.{Alarm}
@@ -29,7 +30,7 @@ use Rattle.scan.specs.Internal.Plan.{stepEntry, stepPart, stepAt, planOf
 use Rattle.scan.specs.Internal.Scan.{checkOf, planFor, startsAfter, eventsIn, bankAfter}
 use Rattle.bank.specs.Lent.{Words}
 use Rattle.bank.specs.Internal.Words.{wordsIn, bankIn}
-use Rattle.bank.proofs.Places.{length-placed, placed-above, placed-below, alarm-there, state-there}
+use Rattle.bank.proofs.Places.{alarm-there, state-there}
 use Rattle.sweep.proofs.Stepped.{small-on}
 use Rattle.sweep.proofs.Loops.{not-yet, stepped-length}
 

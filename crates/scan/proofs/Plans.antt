@@ -4,6 +4,7 @@ use mathlib.Core.List.{List}
 use Prim.Native.Nat.{ℕ, zero, suc, _+_, _^_, _≤_, _<_}
 use native.Mathlib.Omega.{arith}
 use lib.ListN.{length, getD, replicate, length-append}
+use Rattle.layout.proofs.Laws.{placed-below}
 use Rattle.settings.specs.Internal.Reals.{realAnalog}
 use Rattle.wire.specs.Bits.{bit}
 use Rattle.wire.proofs.WordLaws.{word-lt}
@@ -25,7 +26,6 @@ use Rattle.scan_record.specs.Part.{offsetOf}
 use Rattle.scan_record.specs.Entry.{entryAt}
 use Rattle.sweep.specs.Internal.Sweep.{alarmEvents}
 use Rattle.scan.specs.Internal.Plan.{stepEntry, stepPart, stepAt, planOf, countOf, eventsUpTo}
-use Rattle.bank.proofs.Places.{placed-below}
 
 -- ---- event words
 

@@ -45,27 +45,6 @@ abbrev pub durationIn : List ℕ → ℕ → ℕ
 durationIn ws at = upperOf (getD ws at 0)
 
 -- words 1 to 4: the REALs, and ROCPeriod
-abbrev pub hhIn : List ℕ → ℕ → Float
-hhIn ws at = lowerReal (getD ws (at + 1) 0)
-
-abbrev pub hIn : List ℕ → ℕ → Float
-hIn ws at = upperReal (getD ws (at + 1) 0)
-
-abbrev pub lIn : List ℕ → ℕ → Float
-lIn ws at = lowerReal (getD ws (at + 2) 0)
-
-abbrev pub llIn : List ℕ → ℕ → Float
-llIn ws at = upperReal (getD ws (at + 2) 0)
-
-abbrev pub deadbandIn : List ℕ → ℕ → Float
-deadbandIn ws at = lowerReal (getD ws (at + 3) 0)
-
-abbrev pub rocposIn : List ℕ → ℕ → Float
-rocposIn ws at = upperReal (getD ws (at + 3) 0)
-
-abbrev pub rocnegIn : List ℕ → ℕ → Float
-rocnegIn ws at = lowerReal (getD ws (at + 4) 0)
-
 abbrev pub periodIn : List ℕ → ℕ → ℕ
 periodIn ws at = upperOf (getD ws (at + 4) 0)
 
@@ -73,13 +52,13 @@ periodIn ws at = upperOf (getD ws (at + 4) 0)
 unfoldable pub limitsIn : List ℕ → ℕ → Limits
 limitsIn ws at =
     record {
-      hh = hhIn ws at;
-      h = hIn ws at;
-      l = lIn ws at;
-      ll = llIn ws at;
-      deadband = deadbandIn ws at;
-      rocpos = rocposIn ws at;
-      rocneg = rocnegIn ws at;
+      hh = lowerReal (getD ws (at + 1) 0);
+      h = upperReal (getD ws (at + 1) 0);
+      l = lowerReal (getD ws (at + 2) 0);
+      ll = upperReal (getD ws (at + 2) 0);
+      deadband = lowerReal (getD ws (at + 3) 0);
+      rocpos = upperReal (getD ws (at + 3) 0);
+      rocneg = lowerReal (getD ws (at + 4) 0);
     }
 
 -- words 5 to 7: the severities; a digital alarm has its one in the lower half of word 5

@@ -7,26 +7,41 @@ use Rattle.layout.proofs.read.limits_in.Tie as tie
 returns : tie.Need-returns
 unfolding limitsIn
 returns c =
+    let bands = c .before .before in
+    let lows = bands .before .before in
+    let highs = lows .before .before in
     λ i.
     record {
-      hh = c .before .before .before .before .before .before .hh-in .ensures i;
-      h = c .before .before .before .before .before .h-in .ensures i;
-      l = c .before .before .before .before .l-in .ensures i;
-      ll = c .before .before .before .ll-in .ensures i;
-      deadband = c .before .before .deadband-in .ensures i;
-      rocpos = c .before .rocpos-in .ensures i;
-      rocneg = c .rocneg-in .ensures i;
+      hh = highs .before .lower-real .ensures i;
+      h = highs .upper-real .ensures i;
+      l = lows .before .lower-real2 .ensures i;
+      ll = lows .upper-real2 .ensures i;
+      deadband = bands .before .lower-real3 .ensures i;
+      rocpos = bands .upper-real3 .ensures i;
+      rocneg = c .lower-real4 .ensures i;
     }
 
 pub limits-in-spec : {M : Type 1} → statement M
 limits-in-spec =
     tie.close
     (tie.spec
+    (λ c. search needs)
+    (λ c. search needs)
+    (λ c. search needs)
+    (λ c. search needs)
+    (λ c. search needs)
+    (λ c. search needs)
+    (λ c. search needs)
+    (λ c. search needs)
+    (λ c. search needs)
     (λ c κs. search needs)
     (λ c κs. search needs)
     (λ c κs. search needs)
     (λ c κs. search needs)
     (λ c κs. search needs)
     (λ c κs. search needs)
+    (λ c. search needs)
+    (λ c. search needs)
+    (λ c. search needs)
     (λ c κs. search needs)
     returns)
