@@ -8,6 +8,7 @@ use layout::sizes::STATES_WORDS;
 use report::report::AlarmReport;
 use report::report::report;
 use scan::answer::Answer;
+use settings::counts::ALARMS;
 use settings::reply::Refusal;
 use settings::reply::Reply;
 use text::answers::add_conditions;
@@ -110,7 +111,7 @@ pub fn add_bank(
 ) -> usize {
     let mut at = waiting;
     let mut n = 1;
-    while n <= 24 {
+    while n <= ALARMS {
         at = add_alarm(text, at, settings, states, marks, n);
         n += 1;
     }
