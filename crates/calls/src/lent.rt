@@ -1,8 +1,9 @@
 // A buffer that is lent to a call, filled with a pattern before, so that every byte that the call changes is seen.
 ghost use Prim.Native.Nat.{_≤_};
+use call_text::spelling::MOST_ROOM;
 
 // The longest buffer that is lent.
-pub const LENT_SIZE: usize = 65536;
+pub const LENT_SIZE: usize = MOST_ROOM;
 
 // How many bytes are lent where so many are asked for.
 pub fn lent_size(room: usize) -> usize

@@ -1,11 +1,7 @@
 // Runs a list of calls of the library, one a line of standard input, and writes one reply a line.
-mod call;
-mod fault;
 mod lent;
 mod reply;
 mod run;
-mod spelling;
-mod words;
 
 use crate::run::run_line;
 use crate::run::run_settings;

@@ -1,10 +1,10 @@
 // What the calls answer, as text. Each function adds to what waits and answers how much waits then.
 use crate::lent::touched;
-use crate::words::word;
+use bank_text::answers::add_conditions;
+use bank_text::answers::add_refused;
+use call_text::words::word;
 use report::report::AlarmReport;
 use settings::reply::Reply;
-use text::answers::add_conditions;
-use text::answers::add_refused;
 use text::input::part;
 use text::output::TEXT_SIZE;
 use text::output::add;

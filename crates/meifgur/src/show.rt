@@ -1,6 +1,8 @@
 // What a bank's calls answer, as lines. Each function adds to what waits and answers how much waits then.
 ghost use Prim.Native.Nat.{_≤_};
 ghost use lib.ListN.{length};
+use bank_text::answers::add_conditions;
+use bank_text::answers::add_refused;
 use layout::sizes::DIGITAL_COUNT;
 use layout::sizes::MARKS_WORDS;
 use layout::sizes::SETTINGS_WORDS;
@@ -11,8 +13,6 @@ use scan::answer::Answer;
 use settings::counts::ALARMS;
 use settings::reply::Refusal;
 use settings::reply::Reply;
-use text::answers::add_conditions;
-use text::answers::add_refused;
 use text::output::TEXT_SIZE;
 use text::output::add_byte;
 use text::show::add_form;

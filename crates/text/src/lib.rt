@@ -1,6 +1,4 @@
-// What the programs read and write: input in blocks and pieces of it, text that waits for output, numbers and bytes as text, and what
-// both print of a bank's answers.
-pub mod answers;
+// What the programs read and write: input in blocks and pieces of it, text that waits for output, numbers and bytes as text.
 pub mod input;
 pub mod output;
 pub mod pieces;

@@ -1,7 +1,7 @@
--- `calls::words::word` is safe. The measure is the words to skip. Assumes nothing.
+-- `call_text::words::word` is safe. The measure is the words to skip. Assumes nothing.
 use borrow.Author.Needs.{needs}
-use Rattle.calls.proofs.words.word.Statement.{statement}
-use Rattle.calls.proofs.words.word.Tie as tie
+use Rattle.call_text.proofs.words.word.Statement.{statement}
+use Rattle.call_text.proofs.words.word.Tie as tie
 
 abbrev Inv-loop : tie.InvT-loop
 Inv-loop text mark n from₀ end₀ left₀ from end left = Unit {0}

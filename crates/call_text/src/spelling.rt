@@ -6,7 +6,6 @@ use crate::fault::NO_NUMBER;
 use crate::fault::NO_ROLE;
 use crate::fault::NONE;
 use crate::fault::TOO_LARGE;
-use crate::lent::LENT_SIZE;
 use crate::words::is_same;
 use text::pieces::PIECE_SIZE;
 
@@ -20,6 +19,9 @@ pub const BYTES: usize = 2;
 pub const ROLE: usize = 3;
 
 pub const END: usize = 4;
+
+// The longest buffer that a line may name.
+pub const MOST_ROOM: usize = 65536;
 
 // How many bytes the longest line spells.
 pub const BYTES_SIZE: usize = PIECE_SIZE / 2;
@@ -96,7 +98,7 @@ pub fn spell(kind: usize, word: &[u8], bytes: &mut [u8; BYTES_SIZE]) -> Spelling
         return spelt(0, if kind == END { NONE } else { MISSING });
     }
     match kind {
-        ROOM => number(word, LENT_SIZE),
+        ROOM => number(word, MOST_ROOM),
         NUMBER => number(word, usize::MAX),
         BYTES => put_bytes(bytes, word),
         ROLE => spelt(0, NO_ROLE),

@@ -1,7 +1,7 @@
--- `calls::call::name_of` is safe. The measure is the names left. Assumes nothing.
+-- `call_text::call::name_of` is safe. The measure is the names left. Assumes nothing.
 use borrow.Author.Needs.{needs}
-use Rattle.calls.proofs.call.name_of.Statement.{statement}
-use Rattle.calls.proofs.call.name_of.Tie as tie
+use Rattle.call_text.proofs.call.name_of.Statement.{statement}
+use Rattle.call_text.proofs.call.name_of.Tie as tie
 
 abbrev Inv-loop : tie.InvT-loop
 Inv-loop line name n₀ t4 n = Unit {0}

@@ -1,10 +1,10 @@
--- `calls::words::is_same` is safe: both words have the same length. The measure is the bytes left. Assumes nothing.
+-- `call_text::words::is_same` is safe: both words have the same length. The measure is the bytes left. Assumes nothing.
 use borrow.Author.Needs.{needs}
 use Prim.Native.Nat.{_-_}
 use mathlib.Core.Path.{_≡_}
 use lib.ListN.{length}
-use Rattle.calls.proofs.words.is_same.Statement.{statement}
-use Rattle.calls.proofs.words.is_same.Tie as tie
+use Rattle.call_text.proofs.words.is_same.Statement.{statement}
+use Rattle.call_text.proofs.words.is_same.Tie as tie
 
 abbrev Inv-loop : tie.InvT-loop
 Inv-loop a b i₀ i = length a ≡ length b

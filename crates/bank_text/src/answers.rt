@@ -1,8 +1,8 @@
 // What both programs print of a bank's answers.
-use crate::output::TEXT_SIZE;
-use crate::show::add_form;
 use report::status::Status;
 use settings::reply::Refusal;
+use text::output::TEXT_SIZE;
+use text::show::add_form;
 
 // Adds a refusal.
 pub fn add_refused(text: &mut [u8; TEXT_SIZE], waiting: usize, refusal: Refusal) -> usize {

@@ -1,8 +1,8 @@
--- `text::answers::add_conditions` is safe: the index stays below 6. The measure is the conditions left. Assumes nothing.
+-- `bank_text::answers::add_conditions` is safe: the index stays below 6. The measure is the conditions left. Assumes nothing.
 use borrow.Author.Needs.{needs}
 use Prim.Native.Nat.{_-_}
-use Rattle.text.proofs.answers.add_conditions.Statement.{statement}
-use Rattle.text.proofs.answers.add_conditions.Tie as tie
+use Rattle.bank_text.proofs.answers.add_conditions.Statement.{statement}
+use Rattle.bank_text.proofs.answers.add_conditions.Tie as tie
 
 abbrev Inv-loop : tie.InvT-loop
 Inv-loop text₀ waiting form alarm is-digital conditions at₀ c₀ text at c = Unit {0}
