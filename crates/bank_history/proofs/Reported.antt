@@ -22,7 +22,7 @@ use Rattle.settings.specs.declared.types.Kind.the-variants.{Digital, Analog}
 use Rattle.history.specs.Past.{Fact, holds}
 use Rattle.history.specs.Internal.Row.{begun}
 use Rattle.history.proofs.Condition.{kept-alarm, kept-unacked}
-use Rattle.condition.specs.Severity.{severityInvalid}
+use Rattle.settings.specs.Severity.{severityInvalid}
 use Rattle.condition.specs.Internal.Mark.{Marks}
 use Rattle.step.specs.Internal.Held.{Six, HH, H, L, LL, ROCPos, ROCNeg, ofSix, place, DigitalHeld, lookDigital, AnalogHeld, Patterns, realPatterns, lookAnalog}
 use Rattle.step.specs.Internal.Digital.{digitalRequired}

@@ -3,15 +3,16 @@
 use mathlib.Core.Path.{_≡_, refl, fun-ext}
 use mathlib.Core.Bool.{Bool, true, false, not, _&&_, _||_, cond}
 use mathlib.Core.List.{List, [], _∷_, _++_}
-use Prim.Native.Nat.{ℕ, suc, _+_, _-_, _≤_}
+use Prim.Native.Nat.{ℕ, _+_, _-_, _≤_}
 use native.Mathlib.Omega.{arith}
 use lib.Ieee.{Float, binary32, fits, ofBits, toBits, sub, mul, div}
 use lib.Ieee.Bits.{ofBits-fits, ofBits-toBits}
 use lib.Ieee.Fits.{cond-fits, div-fits}
 use lib.Dec.{T, eqb, leb}
-use lib.ListN.{length, take, drop}
+use lib.ListN.{take, drop}
 use Rattle.wire.specs.Bits.{bit}
 use Rattle.wire.specs.Real.{zeroReal}
+use Rattle.wire.specs.Internal.Words.{howMany}
 use Rattle.wire.proofs.WordLaws.{bit-word}
 use Rattle.settings.specs.Condition as C
 use Rattle.settings.specs.Condition.{Condition, In}
@@ -19,7 +20,6 @@ use Rattle.settings.specs.declared.types.Alarm.{Alarm}
 use Rattle.settings.specs.declared.types.Reading.{Reading}
 use Rattle.settings.specs.declared.types.Reading.the-variants.{Digital, Level}
 use Rattle.settings.specs.Numbers.{Numbers, AnalogOf, valueOf, thousand, periodReal, newRate, realOf, reals}
-use Rattle.settings.specs.declared.types.Kind.{Kind}
 use Rattle.history.specs.Internal.Condition.{Told, acknowledges, returns, activates}
 use Rattle.level.specs.Internal.Sample.{sampleAfter}
 use Rattle.condition.specs.Command.{enables, disables, countResets, resets, acksAll, acks, faults}
@@ -29,7 +29,6 @@ use Rattle.step.specs.Internal.Held.{AnalogHeld, Patterns, realPatterns,
 use Rattle.step.specs.Internal.Digital.{digitalTold, digitalAfter, digitalEvents}
 use Rattle.step.specs.Internal.Analog.{analogTold, cellAfter, analogEnabled, analogSample, analogAfter, cellEvents, analogEvents, sampleStays}
 use Rattle.step.specs.Internal.Analog.{samplePattern, ratePattern, analogStep}
-use Rattle.step.specs.Internal.Events.{eventsFrom}
 use Rattle.step.specs.Internal.State.{State}
 
 -- ---- what is packed is read back
@@ -122,11 +121,6 @@ look-analog a s x word time h =
 
 -- ---- how many events a scan has
 
--- how many bits are set
-unfoldable pub number : List Bool → ℕ
-number [] = 0
-number (b ∷ bs) = cond b 1 0 + number bs
-
 one : (b : Bool) → cond b 1 0 ≤ 1
 one true = omega arith
 one false = omega arith
@@ -138,8 +132,8 @@ mode-most false before = omega (arith, one before)
 
 -- of the whole alarm at most three: disabled or enabled, suppressed or unsuppressed, count reset
 pub whole-most : (disabled suppressed : Bool) (word previous : ℕ) (rest : List Bool)
-    → number (wholeEvents disabled suppressed word previous ++ rest) ≤ 3 + number rest
-unfolding number
+    → howMany (wholeEvents disabled suppressed word previous ++ rest) ≤ 3 + howMany rest
+unfolding howMany
 whole-most disabled suppressed word previous rest =
     omega (
       arith,
@@ -157,16 +151,16 @@ turn-most false met frees ready alarm = omega arith
 
 -- of a condition at most two: acknowledged, and returned or activated
 pub condition-most : (t : Told) (alarm unacked : Bool) (rest : List Bool)
-    → number (acknowledges t unacked ∷ returns t alarm ∷ activates t alarm ∷ rest) ≤ 2 + number rest
-unfolding number
+    → howMany (acknowledges t unacked ∷ returns t alarm ∷ activates t alarm ∷ rest) ≤ 2 + howMany rest
+unfolding howMany
 condition-most t alarm unacked rest = omega (arith, one (acknowledges t unacked), turn-most (t .enabled) (t .met) (t .frees) (t .ready) alarm)
 
-no-bits : number [] ≡ 0
-unfolding number
+no-bits : howMany [] ≡ 0
+unfolding howMany
 no-bits = refl
 
 module _ (a : Alarm) (x : Reading) (word time : ℕ) (d : DigitalHeld) where
-  pub digital-most : number (digitalEvents a x word time d) ≤ 5
+  pub digital-most : howMany (digitalEvents a x word time d) ≤ 5
   digital-most =
       let t : Told = digitalTold a x word time d in
       let three : List Bool = acknowledges t (d .cell .unacked) ∷ returns t (d .cell .alarm) ∷ activates t (d .cell .alarm) ∷ [] in
@@ -185,10 +179,10 @@ module _ {X : Type 0} (n : Numbers X) (a : AnalogOf X) (x : Reading) (word time 
   abbrev cell-bits : Six → List Bool → List Bool
   cell-bits = cellEvents n a x word time h
 
-  cell-most : (c : Six) (rest : List Bool) → number (cell-bits c rest) ≤ 2 + number rest
+  cell-most : (c : Six) (rest : List Bool) → howMany (cell-bits c rest) ≤ 2 + howMany rest
   cell-most c rest = condition-most (analogTold n a x word time h c) (h .cell c .alarm) (h .cell c .unacked) rest
 
-  six-most : number (cell-bits HH (cell-bits H (cell-bits L (cell-bits LL (cell-bits ROCPos (cell-bits ROCNeg [])))))) ≤ 12
+  six-most : howMany (cell-bits HH (cell-bits H (cell-bits L (cell-bits LL (cell-bits ROCPos (cell-bits ROCNeg [])))))) ≤ 12
   six-most =
       omega (
         arith,
@@ -201,7 +195,7 @@ module _ {X : Type 0} (n : Numbers X) (a : AnalogOf X) (x : Reading) (word time 
         no-bits,
       )
 
-  pub analog-most : number (analogEvents n a x word time h) ≤ 15
+  pub analog-most : howMany (analogEvents n a x word time h) ≤ 15
   analog-most =
       let w =
       whole-most (h .disabled) (h .suppressed) word (h .previous)
@@ -303,12 +297,3 @@ module _ {X : Type 0} (n : Numbers X) (a : AnalogOf X) (x : Reading) (word word�
   pub suppress-events-analog : (take 2 (analogEvents n a x word′ time h) ≡ take 2 (analogEvents n a x word time h))
       × (drop 4 (analogEvents n a x word′ time h) ≡ drop 4 (analogEvents n a x word time h))
   suppress-events-analog = rw (e .enabling, e .disabling, e .count-reset, fun-ext (e .ack)) (refl, refl)
-
--- ---- events written
-
-pub events-number : (alarm : ℕ) (kind : Kind) (suppressed : Bool) (time k : ℕ) (bits : List Bool)
-    → length (eventsFrom alarm kind suppressed time k bits) ≡ number bits
-unfolding eventsFrom number
-events-number alarm kind suppressed time k [] = refl
-events-number alarm kind suppressed time k (true ∷ bs) = omega (arith, events-number alarm kind suppressed time (suc k) bs)
-events-number alarm kind suppressed time k (false ∷ bs) = omega (arith, events-number alarm kind suppressed time (suc k) bs)

@@ -5,4 +5,3 @@ pub mod Digital
 pub mod Analog
 pub mod Packed
 pub mod Step
-pub mod Events

@@ -14,7 +14,7 @@ use Rattle.settings.specs.declared.types.Form.{Form}
 use Rattle.settings.specs.declared.types.Form.the-variants.{Digital, Analog}
 use Rattle.layout.specs.Internal.Block.{digitalIn, alarmOn}
 use Rattle.scan_record.specs.Part.{timeOf, readingAt, wordAt}
-use Rattle.condition.specs.Event.{logBytes}
+use Rattle.event.specs.Event.{logBytes}
 use Rattle.event.proofs.Logs.{log-append}
 use Rattle.step.specs.Internal.State.{State, Stepped, stateIn, stateWords, stateAt}
 use Rattle.step.specs.Internal.Step.{stepOf}

@@ -13,7 +13,7 @@ use Rattle.settings.specs.declared.types.Form.{Form}
 use Rattle.layout.specs.Internal.Words.{alarmIn}
 use Rattle.layout.specs.Internal.Block.{alarmAt, digitalIn, alarmOn}
 use Rattle.scan_record.specs.Part.{timeOf, readingAt, wordAt}
-use Rattle.condition.specs.Event.{logBytes}
+use Rattle.event.specs.Event.{logBytes}
 use Rattle.event.proofs.Logs.{log-append}
 use Rattle.step.specs.Internal.State.{startsOf, stateIn, stateWords, stateAt}
 use Rattle.step.specs.Internal.Step.{stepOf}

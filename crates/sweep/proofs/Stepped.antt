@@ -19,11 +19,11 @@ use Rattle.settings.specs.declared.types.Reading.{Reading}
 use Rattle.layout.specs.Internal.Words.{alarmIn}
 use Rattle.layout.specs.Internal.Block.{alarmAt, digitalIn}
 use Rattle.scan_record.specs.Part.{timeOf, readingAt, wordAt}
-use Rattle.condition.specs.Event.{logBytes}
+use Rattle.event.specs.Event.{logBytes}
 use Rattle.step.specs.Internal.Held.{lookDigital, realPatterns, lookAnalog}
 use Rattle.step.specs.Internal.Digital.{digitalEvents, digitalStep}
 use Rattle.step.specs.Internal.Analog.{analogEvents, analogStep}
-use Rattle.step.specs.Internal.Events.{eventsFrom}
+use Rattle.event.specs.Internal.Events.{eventsFrom}
 use Rattle.step.specs.Internal.State.{State, startsOf, stateIn, stateAt}
 use Rattle.step.specs.Internal.Step.{stepKind}
 use Rattle.step.proofs.Back.{Small, small-in, small-digital, small-analog, put-back}

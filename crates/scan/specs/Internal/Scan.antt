@@ -7,7 +7,7 @@ use lib.ListN.{length, getD, drop}
 use Rattle.settings.specs.Refusals.{refusal}
 use Rattle.settings.specs.declared.reply.Refusal.{Refusal}
 use Rattle.settings.specs.declared.reply.Reply.{Reply}
-use Rattle.condition.specs.Event.{Event, logBytes}
+use Rattle.event.specs.Event.{Event, logBytes}
 use Rattle.scan_record.specs.Part.{timeOf}
 use Rattle.scan_record.specs.Check.{checkRecord}
 use Rattle.marks.specs.Internal.Marks.{markAlarms}

@@ -1,6 +1,6 @@
 // How a severity acts.
 ghost use mathlib.Core.Path.{_≡_};
-ghost use Rattle.condition.specs.Severity.{acting, severityInvalid};
+ghost use Rattle.settings.specs.Severity.{acting, severityInvalid};
 
 // A DINT below 1 acts as 1, above 1000 as 1000.
 pub fn acting_severity(s: u32) -> u16

@@ -6,8 +6,8 @@ use lib.Dec.{ltb}
 use lib.ListN.{getD}
 use Rattle.settings.specs.declared.types.Kind.{Kind}
 use Rattle.settings.specs.declared.types.Kind.the-variants.{Digital, Analog}
-use Rattle.condition.specs.Severity.{acting}
-use Rattle.condition.specs.Event.{Event}
+use Rattle.settings.specs.Severity.{acting}
+use Rattle.event.specs.Event.{Event}
 
 -- bits 0 to 4 are kinds 1 to 5; from bit 6 on, three to a condition, kinds 6, 7, 8
 abbrev pub kindAt : ℕ → ℕ

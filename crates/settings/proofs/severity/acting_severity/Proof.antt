@@ -1,11 +1,11 @@
--- `condition::severity::acting_severity` meets its contract: each return takes the case that its tests led to. Assumes nothing.
+-- `settings::severity::acting_severity` meets its contract: each return takes the case that its tests led to. Assumes nothing.
 use borrow.Author.Needs.{needs}
-use Rattle.condition.specs.Severity.{acting}
+use Rattle.settings.specs.Severity.{acting}
 use borrow.Author.Tests.{eq-eqb, ne-eqb, lt-ltb, le-ltb, le-leb}
-use Rattle.condition.proofs.severity.acting_severity.Statement.{statement}
-use Rattle.condition.proofs.severity.acting_severity.Tie as tie
-use Rattle.condition.proofs.severity.acting_severity.Reads as reads
-use Rattle.condition.proofs.severity.acting_severity.Lts as lts
+use Rattle.settings.proofs.severity.acting_severity.Statement.{statement}
+use Rattle.settings.proofs.severity.acting_severity.Tie as tie
+use Rattle.settings.proofs.severity.acting_severity.Reads as reads
+use Rattle.settings.proofs.severity.acting_severity.Lts as lts
 
 -- src/severity.rt:11:9
 returns : tie.Need-returns
