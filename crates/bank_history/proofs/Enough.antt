@@ -15,14 +15,15 @@ use Rattle.settings.specs.Numbers.{reals}
 use Rattle.settings.specs.declared.reply.Reply.the-variants.{Accepted}
 use Rattle.settings.specs.declared.types.Kind.{Kind}
 use Rattle.settings.specs.declared.types.Kind.the-variants.{Digital, Analog}
-use Rattle.step.specs.Internal.Held.{lookDigital, realPatterns, lookAnalog}
-use Rattle.step.specs.Internal.Digital.{digitalEvents, digitalStep}
-use Rattle.step.specs.Internal.Analog.{analogEvents, analogStep}
+use Rattle.state.specs.Internal.Held.{lookDigital, realPatterns, lookAnalog}
+use Rattle.digital.specs.Internal.Digital.{digitalEvents, digitalStep}
+use Rattle.analog.specs.Internal.Analog.{analogEvents, analogStep}
 use Rattle.settings.specs.declared.types.Alarm.{Alarm}
-use Rattle.step.specs.Internal.Step.{stepKind}
-use Rattle.step.specs.Internal.State.{State}
+use Rattle.sweep.specs.Internal.Step.{stepKind}
+use Rattle.state.specs.Internal.State.{State}
 use Rattle.settings.specs.declared.types.Reading.{Reading}
-use Rattle.step.proofs.Laws.{digital-most, analog-most}
+use Rattle.digital.proofs.Laws.{digital-most}
+use Rattle.analog.proofs.Laws.{analog-most}
 use Rattle.scan_record.specs.Part.{timeOf, offsetOf}
 use Rattle.settings.specs.Alarm.{formAt}
 use Rattle.scan_record.specs.Entry.{entryAt}

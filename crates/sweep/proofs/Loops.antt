@@ -15,9 +15,9 @@ use Rattle.layout.specs.Internal.Block.{alarmAt, digitalIn, alarmOn}
 use Rattle.scan_record.specs.Part.{timeOf, readingAt, wordAt}
 use Rattle.event.specs.Event.{logBytes}
 use Rattle.event.proofs.Logs.{log-append}
-use Rattle.step.specs.Internal.State.{startsOf, stateIn, stateWords, stateAt}
-use Rattle.step.specs.Internal.Step.{stepOf}
-use Rattle.step.proofs.Back.{eleven, state-above}
+use Rattle.state.specs.Internal.State.{startsOf, stateIn, stateWords, stateAt}
+use Rattle.sweep.specs.Internal.Step.{stepOf}
+use Rattle.state.proofs.Back.{eleven, state-above}
 use Rattle.marks.proofs.Lengths.{length-alarm}
 use Rattle.bank.specs.Lent.{Words}
 use Rattle.sweep.specs.Internal.Sweep.{alarmEvents, alarmMarks, placeStep, placeStates, placeLog, placeMarks, partAt, stepOn, eventsOn, steppedFrom}

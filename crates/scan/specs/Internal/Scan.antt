@@ -11,8 +11,8 @@ use Rattle.event.specs.Event.{Event, logBytes}
 use Rattle.scan_record.specs.Part.{timeOf}
 use Rattle.scan_record.specs.Check.{checkRecord}
 use Rattle.marks.specs.Internal.Marks.{markAlarms}
-use Rattle.step.specs.Internal.Held.{freshState}
-use Rattle.step.specs.Internal.State.{startsOf}
+use Rattle.state.specs.Internal.Held.{freshState}
+use Rattle.state.specs.Internal.State.{startsOf}
 use Rattle.scan.specs.Internal.Plan.{Plan, planOf, eventsUpTo}
 use Rattle.bank.specs.Internal.Bank.{Bank}
 use Rattle.bank.specs.Internal.Words.{onReply}

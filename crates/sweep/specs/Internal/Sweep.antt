@@ -14,8 +14,8 @@ use Rattle.layout.specs.Internal.Block.{alarmAt, digitalIn, analogIn, countIn, 
 use Rattle.scan_record.specs.Part.{timeOf, readingAt, wordAt, offsetOf, recordSize}
 use Rattle.event.specs.Event.{Event, logBytes}
 use Rattle.event.specs.Internal.Bits.{eventsOf}
-use Rattle.step.specs.Internal.State.{State, Stepped, startsOf, stateIn, stateWords, stateAt}
-use Rattle.step.specs.Internal.Step.{stepOf}
+use Rattle.state.specs.Internal.State.{State, Stepped, startsOf, stateIn, stateWords, stateAt}
+use Rattle.sweep.specs.Internal.Step.{stepOf}
 use Rattle.marks.specs.Internal.Marks.{markAlarm}
 use Rattle.bank.specs.Lent.{Words}
 
