@@ -24,8 +24,8 @@ use Rattle.level.specs.Internal.Sample.{sampleAfter}
 use Rattle.level.proofs.Laws.{rate-stays}
 use Rattle.condition.specs.Internal.Mark.{Marks, marksAfter}
 use Rattle.condition.specs.Command.{acks, faults}
-use Rattle.step.specs.Internal.Held.{Six, HH, H, L, LL, ROCPos, ROCNeg, Side, High, Low, ofSix, AnalogHeld}
-use Rattle.step.specs.Internal.Analog.{analogRequired, analogEnabled, analogSample, sideMet, analogReady, analogTold, analogAfter, cellEvents, analogEvents}
+use Rattle.state.specs.Internal.Held.{Six, HH, H, L, LL, ROCPos, ROCNeg, Side, High, Low, ofSix, AnalogHeld}
+use Rattle.analog.specs.Internal.Analog.{analogRequired, analogEnabled, analogSample, sideMet, analogReady, analogTold, analogAfter, cellEvents, analogEvents}
 use Rattle.alarm_history.specs.Scans.{Scan, previous, enabled, countReset, disabledIn, suppressedIn}
 use Rattle.alarm_history.specs.Sample.{sampledAt, sampleIn, rateIn}
 use Rattle.alarm_history.specs.Facts.{Rules, analogRules, rulesBy, rulesOf, run, facts}

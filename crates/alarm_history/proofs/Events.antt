@@ -12,10 +12,10 @@ use Rattle.settings.specs.declared.types.Limits.{Limits}
 use Rattle.settings.specs.declared.types.Severities.{Severities}
 use Rattle.settings.specs.declared.types.Kind.{Kind}
 use Rattle.settings.specs.declared.types.Kind.the-variants.{Digital, Analog}
-use Rattle.condition.specs.Event.{Event}
-use Rattle.step.specs.Internal.Digital.{digitalEvents}
-use Rattle.step.specs.Internal.Analog.{analogEvents}
-use Rattle.step.specs.Internal.Events.{eventAt, eventsFrom}
+use Rattle.event.specs.Event.{Event}
+use Rattle.digital.specs.Internal.Digital.{digitalEvents}
+use Rattle.analog.specs.Internal.Analog.{analogEvents}
+use Rattle.event.specs.Internal.Events.{eventAt, eventsFrom}
 use Rattle.alarm_history.specs.Scans.{Scan, suppressedIn}
 use Rattle.alarm_history.specs.Facts.{Rules, rulesOf}
 use Rattle.alarm_history.specs.Events.{conditionEvent, wholeLog, conditionLog, alarmLog}

@@ -5,8 +5,8 @@ use mathlib.Core.List.{List, [], _∷_, foldr}
 use Rattle.settings.specs.Condition.{Condition, conditionsOf, numberOf, severityOf}
 use Rattle.settings.specs.declared.types.Alarm.{Alarm}
 use Rattle.history.specs.Demand.{activation, answer, return}
-use Rattle.condition.specs.Severity.{acting}
-use Rattle.condition.specs.Event.{Event}
+use Rattle.settings.specs.Severity.{acting}
+use Rattle.event.specs.Event.{Event}
 use Rattle.alarm_history.specs.Scans.{Scan, disabledIn, suppressedIn, countReset}
 use Rattle.alarm_history.specs.Facts.{rulesOf, facts}
 

@@ -25,8 +25,8 @@ use Rattle.layout.proofs.Laws.{length-placed, placed-below}
 use Rattle.layout.proofs.Back.{Kept, digital-kept, Reals, analog-kept, block-is, settings-back}
 use Rattle.reader.specs.Read.{readOf}
 use Rattle.reader.proofs.Filled.{settled}
-use Rattle.step.specs.Internal.Held.{freshState}
-use Rattle.step.specs.Internal.State.{State, stateIn, stateAt}
+use Rattle.state.specs.Internal.Held.{freshState}
+use Rattle.state.specs.Internal.State.{State, stateIn, stateAt}
 use Rattle.bank.specs.Internal.Bank.{freshBank, loadOf}
 use Rattle.bank.specs.Internal.Words.{fitOf, bankIn}
 use Rattle.bank.specs.Internal.Load.{loadedWords}

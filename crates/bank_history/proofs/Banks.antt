@@ -25,13 +25,13 @@ use Rattle.settings.specs.declared.types.Form.{Form}
 use Rattle.settings.specs.declared.types.Form.the-variants.{Digital as DigitalForm, Analog as AnalogForm}
 use Rattle.settings.specs.declared.reply.Reply.the-variants.{Accepted}
 use Rattle.reader.specs.Internal.Sound.{SoundSettings}
-use Rattle.step.specs.Internal.Held.{freshState, lookDigital, realPatterns, lookAnalog, runOf, cellOf, Six, HH, H, L, LL, ROCPos, ROCNeg, Side, High, Low}
-use Rattle.step.specs.Internal.Held.{place}
-use Rattle.step.specs.Internal.Digital.{digitalStep}
-use Rattle.step.specs.Internal.Analog.{analogStep}
-use Rattle.step.specs.Internal.Step.{stepKind, stepOf}
-use Rattle.step.specs.Internal.State.{State, Stepped, startsOf}
-use Rattle.step.proofs.Laws.{InRecord, look-analog}
+use Rattle.state.specs.Internal.Held.{freshState, lookDigital, realPatterns, lookAnalog, runOf, cellOf, Six, HH, H, L, LL, ROCPos, ROCNeg, Side, High, Low}
+use Rattle.state.specs.Internal.Held.{place}
+use Rattle.digital.specs.Internal.Digital.{digitalStep}
+use Rattle.analog.specs.Internal.Analog.{analogStep}
+use Rattle.sweep.specs.Internal.Step.{stepKind, stepOf}
+use Rattle.state.specs.Internal.State.{State, Stepped, startsOf}
+use Rattle.analog.proofs.Laws.{InRecord, look-analog}
 use Rattle.alarm_history.specs.Scans.{Scan}
 use Rattle.alarm_history.specs.Internal.After.{freshAnalog, resetKept, digitalRun, analogRun, digitalMarks, analogMarks}
 use Rattle.alarm_history.proofs.Digital.{digital-required}

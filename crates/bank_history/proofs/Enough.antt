@@ -10,19 +10,20 @@ use lib.Dec.{ltb}
 use lib.Count.{ones, ones-step}
 use lib.ListN.{length, getD}
 use Rattle.settings.specs.Internal.Reals.{realAnalog}
-use Rattle.wire.specs.Internal.Words.{wordOf}
+use Rattle.wire.specs.Internal.Words.{wordOf, howMany}
 use Rattle.settings.specs.Numbers.{reals}
 use Rattle.settings.specs.declared.reply.Reply.the-variants.{Accepted}
 use Rattle.settings.specs.declared.types.Kind.{Kind}
 use Rattle.settings.specs.declared.types.Kind.the-variants.{Digital, Analog}
-use Rattle.step.specs.Internal.Held.{lookDigital, realPatterns, lookAnalog}
-use Rattle.step.specs.Internal.Digital.{digitalEvents, digitalStep}
-use Rattle.step.specs.Internal.Analog.{analogEvents, analogStep}
+use Rattle.state.specs.Internal.Held.{lookDigital, realPatterns, lookAnalog}
+use Rattle.digital.specs.Internal.Digital.{digitalEvents, digitalStep}
+use Rattle.analog.specs.Internal.Analog.{analogEvents, analogStep}
 use Rattle.settings.specs.declared.types.Alarm.{Alarm}
-use Rattle.step.specs.Internal.Step.{stepKind}
-use Rattle.step.specs.Internal.State.{State}
+use Rattle.sweep.specs.Internal.Step.{stepKind}
+use Rattle.state.specs.Internal.State.{State}
 use Rattle.settings.specs.declared.types.Reading.{Reading}
-use Rattle.step.proofs.Laws.{number, digital-most, analog-most}
+use Rattle.digital.proofs.Laws.{digital-most}
+use Rattle.analog.proofs.Laws.{analog-most}
 use Rattle.scan_record.specs.Part.{timeOf, offsetOf}
 use Rattle.settings.specs.Alarm.{formAt}
 use Rattle.scan_record.specs.Entry.{entryAt}
@@ -46,8 +47,8 @@ accepted-with-room b rec room ok h =
 -- ---- 3,840 bytes
 
 -- a word has as many bits set as its list
-word-ones : (bs : List Bool) → ones (wordOf bs) ≡ number bs
-unfolding wordOf number ones
+word-ones : (bs : List Bool) → ones (wordOf bs) ≡ howMany bs
+unfolding wordOf howMany ones
 word-ones [] = refl
 word-ones (true ∷ bs) =
     let low : (1 + 2 * wordOf bs) % 2 ≡ 1 = omega arith in

@@ -13,12 +13,12 @@ use Rattle.settings.specs.Internal.Reals.{realAnalog}
 use Rattle.settings.specs.Numbers.{reals}
 use Rattle.settings.specs.declared.types.Alarm.{Alarm}
 use Rattle.settings.specs.declared.reply.Reply.the-variants.{Accepted}
-use Rattle.condition.specs.Event.{Event}
-use Rattle.step.specs.Internal.Held.{DigitalHeld, AnalogHeld, freshState}
-use Rattle.step.specs.Internal.Digital.{digitalEvents}
-use Rattle.step.specs.Internal.Analog.{analogEvents}
-use Rattle.step.specs.Internal.Events.{eventsFrom}
-use Rattle.step.specs.Internal.State.{Stepped}
+use Rattle.event.specs.Event.{Event}
+use Rattle.state.specs.Internal.Held.{DigitalHeld, AnalogHeld, freshState}
+use Rattle.digital.specs.Internal.Digital.{digitalEvents}
+use Rattle.analog.specs.Internal.Analog.{analogEvents}
+use Rattle.event.specs.Internal.Events.{eventsFrom}
+use Rattle.state.specs.Internal.State.{Stepped}
 use Rattle.alarm_history.specs.Scans.{Scan}
 use Rattle.alarm_history.specs.Events.{alarmLog}
 use Rattle.alarm_history.proofs.Digital.{digital-required, digital-run}

@@ -22,12 +22,12 @@ use Rattle.settings.specs.declared.types.Kind.the-variants.{Digital, Analog}
 use Rattle.history.specs.Past.{Fact, holds}
 use Rattle.history.specs.Internal.Row.{begun}
 use Rattle.history.proofs.Condition.{kept-alarm, kept-unacked}
-use Rattle.condition.specs.Severity.{severityInvalid}
+use Rattle.settings.specs.Severity.{severityInvalid}
 use Rattle.condition.specs.Internal.Mark.{Marks}
-use Rattle.step.specs.Internal.Held.{Six, HH, H, L, LL, ROCPos, ROCNeg, ofSix, place, DigitalHeld, lookDigital, AnalogHeld, Patterns, realPatterns, lookAnalog}
-use Rattle.step.specs.Internal.Digital.{digitalRequired}
-use Rattle.step.specs.Internal.Analog.{analogRequired}
-use Rattle.step.specs.Internal.State.{State}
+use Rattle.state.specs.Internal.Held.{Six, HH, H, L, LL, ROCPos, ROCNeg, ofSix, place, DigitalHeld, lookDigital, AnalogHeld, Patterns, realPatterns, lookAnalog}
+use Rattle.digital.specs.Internal.Digital.{digitalRequired}
+use Rattle.analog.specs.Internal.Analog.{analogRequired}
+use Rattle.state.specs.Internal.State.{State}
 use Rattle.alarm_history.specs.Scans.{Scan, disabledIn, suppressedIn, faultedIn, lastTime}
 use Rattle.alarm_history.specs.Sample.{rateIn}
 use Rattle.alarm_history.specs.Facts.{Rules, digitalRules, analogRules, rulesBy, facts}

@@ -10,11 +10,11 @@ use Rattle.condition.specs.Command.{countResets}
 use Rattle.condition.specs.Internal.Mark.{Turn, marksAfter, timeStampAfter}
 use Rattle.settings.specs.Numbers.{Numbers, AnalogOf}
 use Rattle.settings.specs.declared.types.Alarm.{Alarm}
-use Rattle.step.specs.Internal.Held.{DigitalHeld, lookDigital, Six, HH, H, L, LL, ROCPos, ROCNeg, place, AnalogHeld, Patterns, lookAnalog}
-use Rattle.step.specs.Internal.Digital.{digitalRequired, digitalAfter, digitalEvents, digitalStep}
-use Rattle.step.specs.Internal.Analog.{analogRequired, analogAfter, analogEvents, analogStep}
-use Rattle.step.specs.Internal.State.{State, Stepped, startsOf}
-use Rattle.step.proofs.Laws.{look-digital}
+use Rattle.state.specs.Internal.Held.{DigitalHeld, lookDigital, Six, HH, H, L, LL, ROCPos, ROCNeg, place, AnalogHeld, Patterns, lookAnalog}
+use Rattle.digital.specs.Internal.Digital.{digitalRequired, digitalAfter, digitalEvents, digitalStep}
+use Rattle.analog.specs.Internal.Analog.{analogRequired, analogAfter, analogEvents, analogStep}
+use Rattle.state.specs.Internal.State.{State, Stepped, startsOf}
+use Rattle.state.proofs.Held.{look-digital}
 use Rattle.alarm_history.specs.Scans.{Scan}
 use Rattle.alarm_history.specs.Internal.After.{resetKept, digitalRun, analogRun, digitalTurn, digitalMarks, analogTurn, analogMarks}
 use Rattle.marks.specs.Internal.Marks.{marksAt, turnAt}

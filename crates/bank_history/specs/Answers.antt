@@ -11,7 +11,7 @@ use Rattle.settings.specs.declared.types.Form.{Form}
 use Rattle.settings.specs.declared.types.Settings.{Settings}
 use Rattle.settings.specs.declared.reply.Reply.{Reply}
 use Rattle.settings.specs.declared.reply.Reply.the-variants.{Accepted, Refused as RefusedBy}
-use Rattle.condition.specs.Event.{Event, logBytes}
+use Rattle.event.specs.Event.{Event, logBytes}
 use Rattle.scan_record.specs.Part.{timeOf, readingAt, wordAt, offsetOf}
 use Rattle.scan_record.specs.Check.{checkRecord}
 use Rattle.alarm_history.specs.Scans.{Scan}

@@ -14,7 +14,7 @@ use Rattle.settings.specs.declared.types.Kind.the-variants.{Digital, Analog}
 use Rattle.settings.specs.declared.types.Settings.{Settings}
 use Rattle.settings.specs.declared.reply.Reply.the-variants.{Accepted}
 use Rattle.history.specs.Demand.{inAlarm, unacknowledged, count}
-use Rattle.condition.specs.Severity.{severityInvalid}
+use Rattle.settings.specs.Severity.{severityInvalid}
 use Rattle.alarm_history.specs.Scans.{Scan, disabledIn, suppressedIn, faultedIn}
 use Rattle.alarm_history.specs.Sample.{rateIn}
 use Rattle.alarm_history.specs.Facts.{Rules, rulesOf, facts}

@@ -1,4 +1,2 @@
 pub mod Command
-pub mod Severity
-pub mod Event
 pub mod Internal

@@ -4,4 +4,3 @@ pub mod mark;
 pub mod mode;
 pub mod outcome;
 pub mod row;
-pub mod severity;

@@ -14,9 +14,9 @@ use Rattle.settings.specs.declared.types.Kind.{Kind}
 use Rattle.settings.specs.declared.types.Form.{Form}
 use Rattle.settings.specs.declared.types.Form.the-variants.{Digital as DigitalForm, Analog as AnalogForm}
 use Rattle.layout.specs.Internal.Words.{kindIn}
-use Rattle.condition.specs.Severity.{acting}
-use Rattle.condition.specs.Event.{Event, eventBytes, logBytes}
-use Rattle.step.specs.Internal.Events.{eventAt, ownCondition, storedSeverity}
+use Rattle.settings.specs.Severity.{acting}
+use Rattle.event.specs.Event.{Event, eventBytes, logBytes}
+use Rattle.event.specs.Internal.Events.{eventAt, ownCondition, storedSeverity}
 use Rattle.event.specs.Internal.Bits.{eventsOf, conditionOf, headOf, recordsOf}
 use Rattle.event.proofs.Stores.{event-bytes}
 use Rattle.event.proofs.Logs.{log-append, events-split, no-events, no-three}

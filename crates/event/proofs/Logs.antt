@@ -9,11 +9,11 @@ use borrow.Author.Tests.{eqb-true, eqb-false}
 use lib.Dec.{eqb}
 use lib.Count.{ones, ones-step, ones-le}
 use lib.ListN.{length, length-append}
-use Rattle.wire.specs.Internal.Words.{wordOf}
+use Rattle.wire.specs.Internal.Words.{wordOf, howMany}
 use Rattle.wire.proofs.WordLaws.{word-low, word-rest}
 use Rattle.settings.specs.declared.types.Kind.{Kind}
-use Rattle.condition.specs.Event.{Event, eventBytes, logBytes}
-use Rattle.step.specs.Internal.Events.{eventAt, eventsFrom}
+use Rattle.event.specs.Event.{Event, eventBytes, logBytes}
+use Rattle.event.specs.Internal.Events.{eventAt, eventsFrom}
 use Rattle.event.specs.Internal.Bits.{eventsOf}
 use Rattle.event.proofs.Stores.{length-event}
 
@@ -79,6 +79,13 @@ module _ (alarm : ℕ) (kind : Kind) (suppressed : Bool) (time : ℕ) where
       go : eventsOf alarm kind suppressed time n (suc k) (wordOf bs) ≡ eventsFrom alarm kind suppressed time (suc k) bs
           → eventsOf alarm kind suppressed time (suc n) k (wordOf (b ∷ bs)) ≡ eventsFrom alarm kind suppressed time k (b ∷ bs)
       go ih = rw (word-low b bs refl, word-rest b bs refl, ih)
+
+  -- an event for each bit that is set
+  pub events-number : (k : ℕ) (bits : List Bool) → length (eventsFrom alarm kind suppressed time k bits) ≡ howMany bits
+  unfolding eventsFrom howMany
+  events-number k [] = refl
+  events-number k (true ∷ bs) = omega (arith, events-number (suc k) bs)
+  events-number k (false ∷ bs) = omega (arith, events-number (suc k) bs)
 
   -- the events of n bits, and of the m bits above them
   pub events-split : (n m k word : ℕ)

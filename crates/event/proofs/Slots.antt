@@ -6,7 +6,7 @@ use native.Mathlib.Omega.{arith}
 use lib.ListN.{getD}
 use Rattle.settings.specs.declared.types.Form.the-variants.{Analog as AnalogForm}
 use Rattle.layout.specs.Internal.Words.{lowerOf, upperOf, severitiesIn, kindIn}
-use Rattle.step.specs.Internal.Events.{storedSeverity}
+use Rattle.event.specs.Internal.Events.{storedSeverity}
 
 module _ (ws : List ℕ) (at : ℕ) where
   -- the word of a place

@@ -10,7 +10,7 @@ use lib.ListN.{length, length-append}
 use lib.Seq.{sets}
 use Rattle.wire.specs.Number.{bytes}
 use Rattle.wire.proofs.Laws.{length-bytes, sets-append, bytes-add}
-use Rattle.condition.specs.Event.{Event, eventBytes}
+use Rattle.event.specs.Event.{Event, eventBytes}
 use Rattle.event.specs.Internal.Bits.{headOf, recordOf, recordsOf}
 
 pub length-event : (e : Event) → length (eventBytes e) ≡ 16

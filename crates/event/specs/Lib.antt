@@ -1,1 +1,2 @@
+pub mod Event
 pub mod Internal

@@ -4,7 +4,7 @@ ghost use Prim.Native.Nat.{_+_, _<_, _≤_};
 ghost use lib.ListN.{length};
 ghost use Rattle.settings.specs.declared.types.Form.{Form};
 ghost use Rattle.layout.specs.Internal.Words.{kindIn};
-ghost use Rattle.step.specs.Internal.Events.{storedSeverity};
+ghost use Rattle.event.specs.Internal.Events.{storedSeverity};
 ghost use Rattle.event.specs.Internal.Bits.{conditionOf};
 use layout::half::lower;
 use layout::half::upper;

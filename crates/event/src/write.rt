@@ -6,12 +6,12 @@ ghost use Prim.Native.Nat.{_+_, _*_, _^_, _≤_, _<_};
 ghost use lib.ListN.{length};
 ghost use lib.Seq.{sets};
 ghost use Rattle.wire.specs.Number.{bytes};
-ghost use Rattle.condition.specs.Event.{logBytes};
+ghost use Rattle.event.specs.Event.{logBytes};
 ghost use Rattle.layout.specs.Internal.Words.{kindIn};
 ghost use Rattle.event.specs.Internal.Bits.{eventsOf, headOf, recordOf, recordsOf};
 use crate::slot::condition_at;
 use crate::slot::severity_at;
-use condition::severity::acting_severity;
+use settings::severity::acting_severity;
 use settings::types::Form;
 use wire::number::put_u64;
 

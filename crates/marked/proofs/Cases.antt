@@ -5,7 +5,7 @@ use mathlib.Core.List.{List, [], _∷_, _++_, map}
 use lib.ListN.{getD, replicate}
 use Rattle.wire.specs.Number.{bytes}
 use Rattle.wire.specs.Internal.Words.{words}
-use Rattle.condition.specs.Event.{Event}
+use Rattle.event.specs.Event.{Event}
 use Rattle.reader.specs.Read.{readOf}
 use Rattle.report.specs.Empty.{noStatus}
 use Rattle.report.specs.declared.status.Status.{Status}

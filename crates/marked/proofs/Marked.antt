@@ -15,8 +15,8 @@ use Rattle.settings.specs.Rules.{limitsInRange, inRange, rising, banded, apart}
 use Rattle.history.specs.Past.{since, countFrom, rowStart, latest}
 use Rattle.history.specs.Demand.{inAlarm}
 use Rattle.condition.specs.Command.{acks}
-use Rattle.condition.specs.Severity.{acting}
-use Rattle.condition.specs.Event.{eventBytes, logBytes}
+use Rattle.settings.specs.Severity.{acting}
+use Rattle.event.specs.Event.{eventBytes, logBytes}
 use Rattle.level.specs.Level.{met, frees}
 use Rattle.settings.specs.Numbers.{newRate}
 use Rattle.reader.specs.Count.{countAt}

@@ -19,10 +19,10 @@ use Rattle.layout.specs.Internal.Block.{placed, digitalIn, analogIn, countIn, a
 use Rattle.scan_record.specs.Part.{timeOf, recordSize}
 use Rattle.scan_record.specs.Check.{checkFrom}
 use Rattle.scan_record.proofs.Entries.{PartRead, Whole, all-read, accepted-says}
-use Rattle.condition.specs.Event.{Event}
-use Rattle.step.specs.Internal.Held.{freshState}
-use Rattle.step.specs.Internal.State.{State, Stepped, stateIn, stateWords, stateAt}
-use Rattle.step.proofs.Back.{put-back, state-above, state-below}
+use Rattle.event.specs.Event.{Event}
+use Rattle.state.specs.Internal.Held.{freshState}
+use Rattle.state.specs.Internal.State.{State, Stepped, stateIn, stateWords, stateAt}
+use Rattle.state.proofs.Back.{put-back, state-above, state-below}
 use Rattle.marks.specs.Internal.Marks.{markAlarms}
 use Rattle.bank.specs.Internal.Bank.{Bank}
 use Rattle.sweep.specs.Internal.Sweep.{Ready, alarmMarks, placeStep, alarmEvents, stepOn, eventsOn, steppedFrom, markedFrom, loggedFrom, wordsAfter}

@@ -13,7 +13,7 @@ use Rattle.settings.specs.Refusals.{refusal}
 use Rattle.settings.specs.declared.reply.Refusal.{Refusal}
 use Rattle.settings.specs.declared.reply.Reply.the-variants.{Accepted, Refused as RefusedBy}
 use Rattle.layout.specs.Internal.Block.{countIn}
-use Rattle.condition.specs.Event.{Event, logBytes}
+use Rattle.event.specs.Event.{Event, logBytes}
 use Rattle.event.proofs.Logs.{log-length}
 use Rattle.bank.specs.Internal.Bank.{Bank}
 use Rattle.scan.specs.Internal.Scan.{Scanned, ifAccepted, checkOf, eventsIn, bankAfter, refusedScan, checkedScan, checkedBuffer, scanOf, eventBuffer}

@@ -12,7 +12,7 @@ use Rattle.layout.specs.Internal.Block.{noBank, countIn, isBlock}
 use Rattle.settings.specs.declared.reply.Reply.{Reply}
 use Rattle.settings.specs.declared.reply.Reply.the-variants.{Accepted, Refused as RefusedBy}
 use Rattle.scan_record.specs.Part.{timeOf}
-use Rattle.condition.specs.Event.{logBytes}
+use Rattle.event.specs.Event.{logBytes}
 use Rattle.event.proofs.Logs.{log-length}
 use Rattle.bank.specs.Internal.Bank.{Bank}
 use Rattle.bank.specs.Internal.Words.{onReply, fitOf, bankIn}

@@ -14,11 +14,11 @@ use Rattle.settings.specs.declared.types.Alarm.{Alarm}
 use Rattle.settings.specs.declared.types.Kind.{Kind}
 use Rattle.settings.specs.declared.types.Kind.the-variants.{Digital, Analog}
 use Rattle.settings.specs.declared.types.Reading.{Reading}
-use Rattle.step.specs.Internal.Held.{freshState, lookDigital, realPatterns, lookAnalog}
-use Rattle.step.specs.Internal.Digital.{digitalEvents, digitalStep}
-use Rattle.step.specs.Internal.Analog.{analogEvents, analogStep}
-use Rattle.step.specs.Internal.Step.{stepKind}
-use Rattle.step.specs.Internal.State.{State}
+use Rattle.state.specs.Internal.Held.{freshState, lookDigital, realPatterns, lookAnalog}
+use Rattle.digital.specs.Internal.Digital.{digitalEvents, digitalStep}
+use Rattle.analog.specs.Internal.Analog.{analogEvents, analogStep}
+use Rattle.sweep.specs.Internal.Step.{stepKind}
+use Rattle.state.specs.Internal.State.{State}
 use Rattle.event.proofs.Logs.{events-ones}
 use Rattle.scan_record.specs.declared.entry.Entry.{Entry}
 use Rattle.scan_record.specs.declared.entry.Entry.the-variants.{Read, Refused}

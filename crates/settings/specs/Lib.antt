@@ -3,4 +3,5 @@ pub mod Alarm
 pub mod Condition
 pub mod Numbers
 pub mod Rules
+pub mod Severity
 pub mod Internal

@@ -14,10 +14,10 @@ use Rattle.settings.specs.declared.types.Form.{Form}
 use Rattle.settings.specs.declared.types.Form.the-variants.{Digital, Analog}
 use Rattle.layout.specs.Internal.Block.{digitalIn, alarmOn}
 use Rattle.scan_record.specs.Part.{timeOf, readingAt, wordAt}
-use Rattle.condition.specs.Event.{logBytes}
+use Rattle.event.specs.Event.{logBytes}
 use Rattle.event.proofs.Logs.{log-append}
-use Rattle.step.specs.Internal.State.{State, Stepped, stateIn, stateWords, stateAt}
-use Rattle.step.specs.Internal.Step.{stepOf}
+use Rattle.state.specs.Internal.State.{State, Stepped, stateIn, stateWords, stateAt}
+use Rattle.sweep.specs.Internal.Step.{stepOf}
 use Rattle.bank.specs.Lent.{Words}
 use Rattle.bank.specs.Internal.Words.{wordsIn}
 use Rattle.sweep.specs.Internal.Sweep.{alarmEvents, alarmMarks, HaveForm, placeStep, partAt, stepOn, eventsOn, steppedFrom, markedFrom, loggedFrom}

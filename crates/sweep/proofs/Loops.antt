@@ -13,11 +13,11 @@ use Rattle.settings.specs.declared.types.Form.{Form}
 use Rattle.layout.specs.Internal.Words.{alarmIn}
 use Rattle.layout.specs.Internal.Block.{alarmAt, digitalIn, alarmOn}
 use Rattle.scan_record.specs.Part.{timeOf, readingAt, wordAt}
-use Rattle.condition.specs.Event.{logBytes}
+use Rattle.event.specs.Event.{logBytes}
 use Rattle.event.proofs.Logs.{log-append}
-use Rattle.step.specs.Internal.State.{startsOf, stateIn, stateWords, stateAt}
-use Rattle.step.specs.Internal.Step.{stepOf}
-use Rattle.step.proofs.Back.{eleven, state-above}
+use Rattle.state.specs.Internal.State.{startsOf, stateIn, stateWords, stateAt}
+use Rattle.sweep.specs.Internal.Step.{stepOf}
+use Rattle.state.proofs.Back.{eleven, state-above}
 use Rattle.marks.proofs.Lengths.{length-alarm}
 use Rattle.bank.specs.Lent.{Words}
 use Rattle.sweep.specs.Internal.Sweep.{alarmEvents, alarmMarks, placeStep, placeStates, placeLog, placeMarks, partAt, stepOn, eventsOn, steppedFrom}

@@ -16,13 +16,14 @@ use Rattle.settings.specs.declared.types.Form.the-variants.{Digital, Analog}
 use Rattle.layout.specs.Internal.Words.{alarmIn}
 use Rattle.layout.specs.Internal.Block.{alarmAt, digitalIn, countIn}
 use Rattle.scan_record.specs.Part.{timeOf, readingAt, wordAt}
-use Rattle.event.proofs.Logs.{log-length}
-use Rattle.step.specs.Internal.Held.{lookDigital, realPatterns, lookAnalog}
-use Rattle.step.specs.Internal.Digital.{digitalEvents}
-use Rattle.step.specs.Internal.Analog.{analogEvents}
-use Rattle.step.specs.Internal.State.{State, stateIn, stateAt}
-use Rattle.step.specs.Internal.Step.{stepKind}
-use Rattle.step.proofs.Laws.{digital-most, analog-most, events-number}
+use Rattle.event.proofs.Logs.{log-length, events-number}
+use Rattle.state.specs.Internal.Held.{lookDigital, realPatterns, lookAnalog}
+use Rattle.digital.specs.Internal.Digital.{digitalEvents}
+use Rattle.analog.specs.Internal.Analog.{analogEvents}
+use Rattle.state.specs.Internal.State.{State, stateIn, stateAt}
+use Rattle.sweep.specs.Internal.Step.{stepKind}
+use Rattle.digital.proofs.Laws.{digital-most}
+use Rattle.analog.proofs.Laws.{analog-most}
 use Rattle.bank.specs.Lent.{Words}
 use Rattle.sweep.specs.Internal.Sweep.{alarmEvents, placeStep, partAt, eventsOn, stepOn, HaveForm, Ready, logFrom, logAfter}
 use Rattle.sweep.proofs.Stepped.{digital-log, analog-log}

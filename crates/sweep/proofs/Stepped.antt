@@ -19,14 +19,16 @@ use Rattle.settings.specs.declared.types.Reading.{Reading}
 use Rattle.layout.specs.Internal.Words.{alarmIn}
 use Rattle.layout.specs.Internal.Block.{alarmAt, digitalIn}
 use Rattle.scan_record.specs.Part.{timeOf, readingAt, wordAt}
-use Rattle.condition.specs.Event.{logBytes}
-use Rattle.step.specs.Internal.Held.{lookDigital, realPatterns, lookAnalog}
-use Rattle.step.specs.Internal.Digital.{digitalEvents, digitalStep}
-use Rattle.step.specs.Internal.Analog.{analogEvents, analogStep}
-use Rattle.step.specs.Internal.Events.{eventsFrom}
-use Rattle.step.specs.Internal.State.{State, startsOf, stateIn, stateAt}
-use Rattle.step.specs.Internal.Step.{stepKind}
-use Rattle.step.proofs.Back.{Small, small-in, small-digital, small-analog, put-back}
+use Rattle.event.specs.Event.{logBytes}
+use Rattle.state.specs.Internal.Held.{lookDigital, realPatterns, lookAnalog}
+use Rattle.digital.specs.Internal.Digital.{digitalEvents, digitalStep}
+use Rattle.analog.specs.Internal.Analog.{analogEvents, analogStep}
+use Rattle.event.specs.Internal.Events.{eventsFrom}
+use Rattle.state.specs.Internal.State.{State, startsOf, stateIn, stateAt}
+use Rattle.sweep.specs.Internal.Step.{stepKind}
+use Rattle.state.proofs.Back.{Small, small-in, put-back}
+use Rattle.digital.proofs.Laws.{small-digital}
+use Rattle.analog.proofs.Laws.{small-analog}
 use Rattle.event.proofs.Logs.{events-bits}
 use Rattle.marks.specs.Internal.Marks.{startsIn}
 use Rattle.bank.specs.Lent.{Words}

@@ -7,6 +7,8 @@ ghost use Rattle.layout.specs.Internal.Sizes.{marksSize, settingsSize, statesSi
 ghost use Rattle.settings.specs.Alarm.{allMost};
 ghost use Rattle.scan_record.specs.Internal.Size.{entrySize};
 ghost use Rattle.sweep.specs.Internal.Sweep.{stateLog, stateMarks, placeStep, placeStates, placeLog, placeMarks};
+use analog::step::analog_step;
+use digital::step::digital_step;
 use event::write::put_events;
 use layout::half::lower;
 use layout::sizes::ALARM_WORDS;
@@ -18,9 +20,7 @@ use marks::mark::mark_alarm;
 use marks::mark::required_in;
 use settings::types::Form;
 use settings::types::Reading;
-use step::analog::analog_step;
-use step::digital::digital_step;
-use step::offsets::STARTS;
+use state::offsets::STARTS;
 use wire::number::get_u32;
 use wire::real::get_real;
 

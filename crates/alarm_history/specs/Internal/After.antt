@@ -13,9 +13,9 @@ use Rattle.history.specs.Internal.Condition.{Kept, kept, acknowledges, returns,
 use Rattle.condition.specs.Command.{countResets}
 use Rattle.condition.specs.Internal.Mark.{Marks, Turn, marksAfter, noMarks, timeStampAfter}
 use Rattle.level.specs.Internal.Sample.{noSample}
-use Rattle.step.specs.Internal.Held.{Cell, Six, ofSix, Side, High, Low, DigitalHeld, AnalogHeld}
-use Rattle.step.specs.Internal.Digital.{digitalRequired, digitalTold, digitalAfter}
-use Rattle.step.specs.Internal.Analog.{analogRequired, analogTold, cellAfter, analogAfter}
+use Rattle.state.specs.Internal.Held.{Cell, Six, ofSix, Side, High, Low, DigitalHeld, AnalogHeld}
+use Rattle.digital.specs.Internal.Digital.{digitalRequired, digitalTold, digitalAfter}
+use Rattle.analog.specs.Internal.Analog.{analogRequired, analogTold, cellAfter, analogAfter}
 use Rattle.alarm_history.specs.Scans.{Scan, previous, disabledIn, suppressedIn, faultedIn, enabled, countReset}
 use Rattle.alarm_history.specs.Sample.{sampledAt, sampleIn, rateIn}
 use Rattle.alarm_history.specs.Facts.{Rules, digitalRules, analogRules, run, facts}

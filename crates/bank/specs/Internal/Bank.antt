@@ -6,8 +6,8 @@ use Rattle.layout.specs.Internal.Sizes.{marksSize}
 use Rattle.reader.specs.Read.{readOf}
 use Rattle.settings.specs.declared.types.Settings.{Settings}
 use Rattle.settings.specs.declared.reply.Reply.{Reply}
-use Rattle.step.specs.Internal.Held.{freshState}
-use Rattle.step.specs.Internal.State.{State}
+use Rattle.state.specs.Internal.Held.{freshState}
+use Rattle.state.specs.Internal.State.{State}
 
 -- what the words of a bank stand for. `marks` has 25 words for each alarm: its count reset stamp, then count, alarm stamp, ack stamp and
 -- return stamp of each condition

@@ -9,8 +9,8 @@ use Rattle.settings.specs.declared.reply.Refusal.{Refusal}
 use Rattle.settings.specs.declared.reply.Reply.{Reply}
 use Rattle.settings.specs.declared.reply.Reply.the-variants.{Accepted, Refused as RefusedBy}
 use Rattle.layout.specs.Internal.Block.{noBank, placed, settingsIn, isBlock}
-use Rattle.step.specs.Internal.Held.{freshState}
-use Rattle.step.specs.Internal.State.{stateIn, stateAt}
+use Rattle.state.specs.Internal.Held.{freshState}
+use Rattle.state.specs.Internal.State.{stateIn, stateAt}
 use Rattle.bank.specs.Lent.{Words}
 use Rattle.bank.specs.Internal.Bank.{Bank}
 

@@ -7,8 +7,8 @@ use Rattle.wire.specs.Number.{bytes}
 use Rattle.settings.specs.declared.types.Kind.{Kind}
 use Rattle.settings.specs.declared.types.Form.{Form}
 use Rattle.settings.specs.declared.types.Form.the-variants.{Digital as DigitalForm, Analog as AnalogForm}
-use Rattle.condition.specs.Event.{Event}
-use Rattle.step.specs.Internal.Events.{eventAt}
+use Rattle.event.specs.Event.{Event}
+use Rattle.event.specs.Internal.Events.{eventAt}
 
 -- an event for each bit of a word that is set, of n bits from bit k on
 unfoldable pub eventsOf : ℕ → Kind → Bool → ℕ → ℕ → ℕ → ℕ → List Event

@@ -5,7 +5,7 @@ use lib.Dec.{leb}
 use lib.ListN.{getD}
 use Rattle.settings.specs.Alarm.{blank, eachMost}
 use Rattle.settings.specs.declared.reply.Reply.the-variants.{Accepted}
-use Rattle.step.specs.Internal.Held.{freshState}
+use Rattle.state.specs.Internal.Held.{freshState}
 use Rattle.bank.specs.Internal.Bank.{Bank}
 use Rattle.bank.specs.Internal.Words.{onReply, fitOf, bankIn}
 use Rattle.bank.specs.Lent.{Words}

@@ -2,14 +2,14 @@
 use Prim.Native.Nat.{ℕ}
 use mathlib.Core.Bool.{Bool, not, _||_}
 use lib.Ieee.{Float}
-use Rattle.condition.specs.Severity.{severityInvalid}
+use Rattle.settings.specs.Severity.{severityInvalid}
 use Rattle.settings.specs.declared.types.Severities.{Severities}
 use Rattle.settings.specs.declared.types.Kind.{Kind}
 use Rattle.settings.specs.declared.types.Kind.the-variants.{Digital, Analog}
 use Rattle.settings.specs.declared.types.Alarm.{Alarm}
 use Rattle.wire.specs.Real.{zeroReal}
-use Rattle.step.specs.Internal.Held.{High, Low, DigitalHeld, lookDigital, AnalogHeld, realPatterns, lookAnalog}
-use Rattle.step.specs.Internal.State.{State}
+use Rattle.state.specs.Internal.Held.{High, Low, DigitalHeld, lookDigital, AnalogHeld, realPatterns, lookAnalog}
+use Rattle.state.specs.Internal.State.{State}
 use Rattle.alarm_history.specs.Internal.After.{elapsed}
 use Rattle.report.specs.declared.whole.Whole.{Whole}
 

@@ -7,10 +7,10 @@ use Rattle.layout.specs.Internal.Block.{placed}
 use Rattle.settings.specs.Alarm.{blank, formAt}
 use Rattle.settings.specs.declared.types.Alarm.{Alarm}
 use Rattle.settings.specs.declared.types.Form.{Form}
-use Rattle.step.specs.Internal.Held.{freshState}
-use Rattle.step.specs.Internal.State.{State, Stepped}
-use Rattle.step.specs.Internal.Step.{stepOf}
-use Rattle.condition.specs.Event.{Event}
+use Rattle.state.specs.Internal.Held.{freshState}
+use Rattle.state.specs.Internal.State.{State, Stepped}
+use Rattle.sweep.specs.Internal.Step.{stepOf}
+use Rattle.event.specs.Event.{Event}
 use Rattle.scan_record.specs.Entry.{entryAt}
 use Rattle.scan_record.specs.declared.entry.Entry.{Entry}
 use Rattle.scan_record.specs.declared.entry.Entry.the-variants.{Read, Refused}

@@ -7,12 +7,12 @@ use lib.ListN.{length, getD, drop}
 use Rattle.settings.specs.Refusals.{refusal}
 use Rattle.settings.specs.declared.reply.Refusal.{Refusal}
 use Rattle.settings.specs.declared.reply.Reply.{Reply}
-use Rattle.condition.specs.Event.{Event, logBytes}
+use Rattle.event.specs.Event.{Event, logBytes}
 use Rattle.scan_record.specs.Part.{timeOf}
 use Rattle.scan_record.specs.Check.{checkRecord}
 use Rattle.marks.specs.Internal.Marks.{markAlarms}
-use Rattle.step.specs.Internal.Held.{freshState}
-use Rattle.step.specs.Internal.State.{startsOf}
+use Rattle.state.specs.Internal.Held.{freshState}
+use Rattle.state.specs.Internal.State.{startsOf}
 use Rattle.scan.specs.Internal.Plan.{Plan, planOf, eventsUpTo}
 use Rattle.bank.specs.Internal.Bank.{Bank}
 use Rattle.bank.specs.Internal.Words.{onReply}

@@ -12,10 +12,10 @@ use Rattle.settings.specs.declared.types.Form.{Form}
 use Rattle.layout.specs.Internal.Words.{alarmIn}
 use Rattle.layout.specs.Internal.Block.{alarmAt, digitalIn, analogIn, countIn, alarmOn}
 use Rattle.scan_record.specs.Part.{timeOf, readingAt, wordAt, offsetOf, recordSize}
-use Rattle.condition.specs.Event.{Event, logBytes}
+use Rattle.event.specs.Event.{Event, logBytes}
 use Rattle.event.specs.Internal.Bits.{eventsOf}
-use Rattle.step.specs.Internal.State.{State, Stepped, startsOf, stateIn, stateWords, stateAt}
-use Rattle.step.specs.Internal.Step.{stepOf}
+use Rattle.state.specs.Internal.State.{State, Stepped, startsOf, stateIn, stateWords, stateAt}
+use Rattle.sweep.specs.Internal.Step.{stepOf}
 use Rattle.marks.specs.Internal.Marks.{markAlarm}
 use Rattle.bank.specs.Lent.{Words}
 

@@ -15,6 +15,11 @@ unfoldable pub maskOf : ℕ → (ℕ → Bool) → ℕ
 maskOf zero f = 0
 maskOf (suc n) f = maskOf n (λ k. f (suc k)) * 2 + cond (f 0) 1 0
 
+-- how many bits are set
+unfoldable pub howMany : List Bool → ℕ
+howMany [] = 0
+howMany (b ∷ bs) = cond b 1 0 + howMany bs
+
 -- a bit for each condition, at every third place
 unfoldable pub spread : List Bool → List Bool
 spread [] = []

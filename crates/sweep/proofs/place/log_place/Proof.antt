@@ -11,8 +11,8 @@ use Rattle.wire.specs.Bits.{bit}
 use Rattle.settings.specs.Alarm.{ackRequired}
 use Rattle.layout.specs.Internal.Words.{lowerOf, alarmIn}
 use Rattle.layout.specs.Internal.Block.{alarmAt}
-use Rattle.condition.specs.Event.{logBytes}
-use Rattle.step.specs.Internal.State.{startsOf, stateIn, stateAt}
+use Rattle.event.specs.Event.{logBytes}
+use Rattle.state.specs.Internal.State.{startsOf, stateIn, stateAt}
 use Rattle.event.specs.Internal.Bits.{eventsOf}
 use Rattle.event.proofs.Logs.{no-events}
 use Rattle.marks.specs.Internal.Marks.{markAlarm}

@@ -2,7 +2,7 @@
 use borrow.Author.Needs.{needs}
 use native.Mathlib.Omega.{arith}
 use Rattle.layout.specs.Internal.Words.{alarmIn}
-use Rattle.step.specs.Internal.Step.{stepKind}
+use Rattle.sweep.specs.Internal.Step.{stepKind}
 use Rattle.sweep.specs.Internal.Sweep.{placeStep, placeStates}
 use Rattle.sweep.proofs.place.step_form.Statement.{statement}
 use Rattle.sweep.proofs.place.step_form.Tie as tie

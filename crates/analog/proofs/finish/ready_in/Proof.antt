@@ -1,0 +1,21 @@
+-- `analog::finish::ready_in` meets its contract. Assumes nothing.
+use borrow.Author.Needs.{needs}
+use mathlib.Core.Path.{_∙_}
+use Rattle.analog.specs.Internal.Packed.{readyBits}
+use Rattle.analog.proofs.finish.ready_in.Statement.{statement}
+use Rattle.analog.proofs.finish.ready_in.Tie as tie
+
+returns : tie.Need-returns
+unfolding readyBits
+returns c = rw (← c .before .before .before .before .choose .ensures, ← c .before .before .before .choose2 .ensures, ← c .before .before .lasted .ensures, ← c .before .lasted2 .ensures) (c .spread6 .ensures)
+
+pub ready-in-spec : {M : Type 1} → statement M
+ready-in-spec =
+    tie.close
+    (tie.spec
+    (λ c κs. search needs)
+    (λ c κs. search needs)
+    (λ c κs. search needs)
+    (λ c κs. search needs)
+    (λ c κs. search needs)
+    returns)

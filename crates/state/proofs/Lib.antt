@@ -1,0 +1,6 @@
+pub mod Back
+pub mod Held
+pub mod Most
+pub mod Starts
+pub mod Suppression
+pub mod Words

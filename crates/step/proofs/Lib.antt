@@ -1,7 +1,0 @@
-mod Asked
-mod Assemble
-pub mod Back
-pub mod Laws
-mod Starts
-mod Words
-mod Steps

@@ -1,8 +1,0 @@
--- What contracts and proofs use and a reader need not believe.
-pub mod State
-pub mod Held
-pub mod Digital
-pub mod Analog
-pub mod Packed
-pub mod Step
-pub mod Events
