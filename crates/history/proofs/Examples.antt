@@ -66,7 +66,8 @@ unfolding kept inAlarm since countFrom
 k6 = record { step = refl; alarm = refl; unacked = refl; count = refl }
 
 -- set anew it acknowledges
-k6-anew : Agrees (scan true true false ∷ scan true false false ∷ scan true true false ∷ scan false true false ∷ []) (record { alarm = true; unacked = false; count = 1 })
+k6-anew : Agrees (scan true true false ∷ scan true false false ∷ scan true true false ∷ scan false true false ∷ [])
+    (record { alarm = true; unacked = false; count = 1 })
 unfolding kept inAlarm since countFrom
 k6-anew = record { step = refl; alarm = refl; unacked = refl; count = refl }
 

@@ -17,5 +17,6 @@ pub record Demand3 {S C : Type 0} (f : Facts S C) (alarm unacked : Bool) (count 
   pub unanswered : unacked ≡ true → Unacknowledged f scans c
   -- and the other way round: if acknowledgement is required and there is such a scan, it is reported unacknowledged
   pub unanswered-only : Unacknowledged f scans c → unacked ≡ true
-  -- its count is the smaller of 2,147,483,647 and the number of its activations from the last count reset on, that scan included, or in the whole list if there was none
+  -- its count is the smaller of 2,147,483,647 and the number of its activations from the last count reset on, that scan included, or in the
+  -- whole list if there was none
   pub counted : (n : ℕ) × (count ≡ min 2147483647 n) × (FromLast (f .reset) (activation f c) scans n ⊎ OfAll (f .reset) (activation f c) scans n)

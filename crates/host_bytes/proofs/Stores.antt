@@ -27,7 +27,8 @@ length-row w = simp (length-append, length-bytes)
 pub row-stores : (w : Row) (l : List ℕ) (at : ℕ)
     → sets
     (sets
-    (sets (sets (sets l at (flag (w .one) ∷ flag (w .two) ∷ flag (w .three) ∷ flag (w .four) ∷ [])) (at + 4) (bytes 4 (w .number))) (at + 8) (bytes 8 (w .first)))
+    (sets (sets (sets l at (flag (w .one) ∷ flag (w .two) ∷ flag (w .three) ∷ flag (w .four) ∷ [])) (at + 4) (bytes 4 (w .number))) (at + 8)
+    (bytes 8 (w .first)))
     (at + 16) (bytes 8 (w .second)))
     (at + 24) (bytes 8 (w .third))
     ≡ sets l at (rowBytes w)
