@@ -8,6 +8,7 @@ use lib.ListN.{getD, set}
 use lib.Ieee.{Float, binary32, ofBits, toBits}
 use Rattle.wire.specs.Bits.{bit}
 use Rattle.wire.specs.Internal.Words.{wordOf, spread}
+use Rattle.wire.specs.Internal.Places.{conditionUnit, conditionBit}
 use Rattle.layout.specs.Internal.Words.{lowerOf, upperOf, pairOf}
 use Rattle.settings.specs.Numbers.{newRate}
 use Rattle.condition.specs.Internal.Outcome.{ackBits}
@@ -18,7 +19,7 @@ use Rattle.six.specs.declared.decide.Cells.{Cells}
 
 -- which rows begin with a scan: HH, H, L, LL, ROCPos, ROCNeg
 abbrev pub rowBegins : ℕ → Bool → ℕ → ℕ → Bool
-rowBegins flags enabled met k = (enabled && bit met (3 * k)) && not (bit flags (8 + 3 * k))
+rowBegins flags enabled met k = (enabled && bit met (3 * k)) && not (bit flags (conditionBit k 2))
 
 -- the runs of the high and the low side, then those rows
 abbrev pub allBegin : ℕ → Bool → ℕ → List Bool
@@ -29,11 +30,15 @@ allBegin flags enabled met =
 
 -- ---- the conditions
 
+-- one of the conditions at two places was in alarm
+abbrev pub inAlarm : ℕ → ℕ → ℕ → Bool
+inAlarm flags c d = bit flags (conditionBit c 0) || bit flags (conditionBit d 0)
+
 -- a level: its side's run has lasted, or its side had a condition in alarm; a rate always
 unfoldable pub readyBits : ℕ → ℕ → ℕ → ℕ → ℕ → List Bool
 readyBits flags high low duration time =
-    (leb duration (time - high) || (bit flags 6 || bit flags 9)) ∷ (leb duration (time - high) || (bit flags 6 || bit flags 9))
-    ∷ (leb duration (time - low) || (bit flags 12 || bit flags 15)) ∷ (leb duration (time - low) || (bit flags 12 || bit flags 15))
+    (leb duration (time - high) || inAlarm flags 0 1) ∷ (leb duration (time - high) || inAlarm flags 0 1)
+    ∷ (leb duration (time - low) || inAlarm flags 2 3) ∷ (leb duration (time - low) || inAlarm flags 2 3)
     ∷ true ∷ true ∷ []
 
 -- when the runs began that a scan goes on with, or begins
@@ -66,4 +71,4 @@ abbrev pub flagsAfter : ℕ → ℕ → Cells → ℕ
 flagsAfter modes met six =
     modes % 8
     + 8 * wordOf (enabledIn modes ∷ (enabledIn modes && (bit met 0 || bit met 3)) ∷ (enabledIn modes && (bit met 6 || bit met 9)) ∷ [])
-    + 64 * six .kept
+    + conditionUnit * six .kept

@@ -6,6 +6,7 @@ use mathlib.Core.List.{List, [], _∷_}
 use lib.ListN.{getD, set}
 use lib.Seq.{sets}
 use Rattle.wire.specs.Bits.{bit}
+use Rattle.wire.specs.Internal.Places.{conditionBit}
 use Rattle.condition.specs.Internal.Mark.{Marks, Turn, marksAfter, timeStampAfter}
 use Rattle.settings.specs.Alarm.{blank, ackRequired}
 use Rattle.settings.specs.declared.types.Alarm.{Alarm}
@@ -26,9 +27,9 @@ abbrev pub turnAt : Bool → List ℕ → ℕ → ℕ → ℕ → Turn
 turnAt required starts word time c =
     record {
       reset = bit word 4;
-      acknowledged = bit word (6 + 3 * c);
-      returned = bit word (7 + 3 * c);
-      activated = bit word (8 + 3 * c);
+      acknowledged = bit word (conditionBit c 0);
+      returned = bit word (conditionBit c 1);
+      activated = bit word (conditionBit c 2);
       required = required;
       start = getD starts c 0;
       time = time;
