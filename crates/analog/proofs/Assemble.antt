@@ -8,7 +8,7 @@ use Rattle.wire.specs.Bits.{bit}
 use Rattle.wire.specs.Internal.Words.{wordOf, spread}
 use Rattle.wire.proofs.WordLaws.{word-halves, word-join}
 use Rattle.wire.proofs.MaskLaws.{bit-spread}
-use Rattle.wire.specs.Internal.Places.{conditionUnit, conditionBit}
+use Rattle.wire.specs.Internal.Places.{freeFlags, freeEvents, conditionUnit, conditionBit}
 use Rattle.condition.specs.Internal.Outcome.{outcomeBits, ackBits}
 use Rattle.six.specs.Internal.Cells.{cell, six, cellsOf}
 use native.Mathlib.Omega.{arith}
@@ -31,7 +31,7 @@ cell-lists flags enabled required met frees ready acks k = rw (bit-spread met k,
 
 -- modes, the sample and the runs, and the conditions
 flags-join : (d s f e h l : Bool) (cells : List Bool)
-    → wordOf (d ∷ s ∷ f ∷ []) + 8 * wordOf (e ∷ h ∷ l ∷ []) + conditionUnit * wordOf cells ≡ wordOf (d ∷ s ∷ f ∷ e ∷ h ∷ l ∷ cells)
+    → wordOf (d ∷ s ∷ f ∷ []) + 8 * wordOf (e ∷ h ∷ l ∷ []) + conditionUnit * wordOf cells ≡ wordOf (d ∷ s ∷ f ∷ e ∷ h ∷ l ∷ freeFlags cells)
 unfolding wordOf
 flags-join d s f e h l cells = omega arith
 
@@ -75,4 +75,4 @@ module _ {X : Type 0} (n : Numbers X) (p : Patterns X) (a : AnalogOf X) (s : Sta
   pub analog-events : {m : ℕ} → m ≡ wordOf (modeBits (bit (s .flags) 0) (bit (s .flags) 1) word (s .previous))
       → m / 8 + conditionUnit * wordOf (six (drop 3) outcomes) ≡ wordOf (analogEvents n a x word time (lookAnalog p s))
   unfolding modeBits readyBits metBits freesBits ackBits
-  analog-events e = word-join (_ ∷ _ ∷ _ ∷ _ ∷ _ ∷ _ ∷ []) (six (drop 3) outcomes) (word-halves _ _ _ _ e .1) refl
+  analog-events e = word-join (_ ∷ _ ∷ _ ∷ _ ∷ _ ∷ freeEvents) (six (drop 3) outcomes) (word-halves _ _ _ _ e .1) refl

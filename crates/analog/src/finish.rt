@@ -74,7 +74,7 @@ pub fn finish(
     word: u32,
     time: u64,
 ) -> u32
-    requires { ⌜ (at + 11 ≤ length (now states)) × (modes < 512) ⌝ }
+    requires { ⌜ (at + 11 ≤ length (now states)) × (modes < 4096) ⌝ }
     ensures { λ r. ⌜ r ≡ modes / 8 + conditionUnit * decided (getD (now (states .entry)) at 0) (getD (now (states .entry)) (at + 3) 0)
         (getD (now (states .entry)) (at + 4) 0) modes met frees duration required word time .events ⌝ }
     ensures { λ _. ⌜ now (states .exit) ≡

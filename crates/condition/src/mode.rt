@@ -3,6 +3,7 @@ ghost use mathlib.Core.Path.{_≡_};
 ghost use Prim.Native.Nat.{_<_};
 ghost use Rattle.wire.specs.Bits.{bit};
 ghost use Rattle.wire.specs.Internal.Words.{wordOf};
+ghost use Rattle.wire.specs.Internal.Places.{disabledFlag, suppressedFlag};
 ghost use Rattle.condition.specs.Internal.Mode.{modeBits};
 use crate::bits::IN_FAULT;
 use crate::bits::OPER_DISABLE;
@@ -14,15 +15,14 @@ use crate::bits::PROG_ENABLE;
 use crate::bits::PROG_SUPPRESS;
 use crate::bits::PROG_UNSUPPRESS;
 use crate::bits::RESET_COUNTS;
-use wire::bits::word3;
 use wire::bits::word6;
 use wire::places::SUPPRESSED;
 
 // One scan of an alarm's modes. Of `digit`, bit 0 is disabled and bit 1 suppressed. The result has these anew, InFaulted in
-// bit 2, and in bits 3 to 7 disabled, enabled, suppressed, unsuppressed and count reset as events. Most scans command nothing,
-// and leave the modes as they are.
+// bit 2, and in bits 3 to 7 disabled, enabled, suppressed, unsuppressed and count reset as events; four more are free. Most scans
+// command nothing, and leave the modes as they are.
 pub fn modes(digit: u32, word: u32, previous: u32) -> u32
-    ensures { λ r. ⌜ (r ≡ wordOf (modeBits (bit digit 0) (bit digit 1) word previous)) × (r < 512) ⌝ }
+    ensures { λ r. ⌜ (r ≡ wordOf (modeBits (bit digit disabledFlag) (bit digit suppressedFlag) word previous)) × (r < 4096) ⌝ }
 {
     if word == 0 {
         return digit % 4;
@@ -44,5 +44,13 @@ pub fn modes(digit: u32, word: u32, previous: u32) -> u32
         !disabled_after & disabled,
         suppressed_after & !suppressed,
     );
-    low + 64 * word3(!suppressed_after & suppressed, resets, false)
+    let high = word6(
+        !suppressed_after & suppressed,
+        resets,
+        false,
+        false,
+        false,
+        false,
+    );
+    low + 64 * high
 }

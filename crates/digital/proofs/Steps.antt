@@ -7,7 +7,7 @@ use lib.ListN.{getD, set}
 use Rattle.wire.specs.Bits.{bit}
 use Rattle.wire.specs.Internal.Words.{wordOf}
 use Rattle.wire.proofs.WordLaws.{word-halves, word-join, bit-digit}
-use Rattle.wire.specs.Internal.Places.{conditionUnit, conditionBit}
+use Rattle.wire.specs.Internal.Places.{freeFlags, freeEvents, conditionUnit, conditionBit}
 use Rattle.condition.specs.Internal.Outcome.{outcomeBits}
 use native.Mathlib.Omega.{arith}
 use Rattle.settings.specs.declared.types.Alarm.{Alarm}
@@ -21,21 +21,22 @@ use Rattle.state.specs.Internal.Held.{DigitalHeld, lookDigital, digitalFlags, h
 use Rattle.digital.specs.Internal.Digital.{digitalTold, digitalAfter, digitalEvents, digitalStep, restFlags}
 use Rattle.state.proofs.Words.{pair-back, copied, stay, n1, n2, n3, n4, n6, n7, n8, n9, n10}
 
--- modes, three free bits, and one condition
-nine-bits : (d s f a u r : Bool) → wordOf (d ∷ s ∷ f ∷ []) + conditionUnit * wordOf (a ∷ u ∷ r ∷ []) ≡ wordOf (d ∷ s ∷ f ∷ false ∷ false ∷ false ∷ a ∷ u ∷ r ∷ [])
+-- modes, what a digital alarm does not use, and one condition
+flags-join : (d s f a u r : Bool) → wordOf (d ∷ s ∷ f ∷ []) + conditionUnit * wordOf (a ∷ u ∷ r ∷ [])
+    ≡ wordOf (d ∷ s ∷ f ∷ false ∷ false ∷ false ∷ freeFlags (a ∷ u ∷ r ∷ []))
 unfolding wordOf
-nine-bits d s f a u r = omega arith
+flags-join d s f a u r = omega arith
 
 module _ (a : Alarm) (s : State) (x : Reading) (word time : ℕ) {m c : ℕ}
     (p : m ≡ wordOf (modeBits (bit (s .flags) 0) (bit (s .flags) 1) word (s .previous)))
     (q : c ≡ wordOf (outcomeBits (digitalTold a x word time (lookDigital s)) (bit (s .flags) (conditionBit 0 0)) (bit (s .flags) (conditionBit 0 1)))) where
   pub digital-flags : m % 8 + conditionUnit * (c % 8) ≡ wordOf (digitalFlags (digitalAfter a x word time (lookDigital s)))
   unfolding modeBits
-  digital-flags = rw (word-halves _ _ _ _ p .0, word-halves _ _ _ _ q .0) (nine-bits _ _ _ _ _ _)
+  digital-flags = rw (word-halves _ _ _ _ p .0, word-halves _ _ _ _ q .0) (flags-join _ _ _ _ _ _)
 
   pub digital-events : m / 8 + conditionUnit * (c / 8) ≡ wordOf (digitalEvents a x word time (lookDigital s))
   unfolding modeBits
-  digital-events = word-join (_ ∷ _ ∷ _ ∷ _ ∷ _ ∷ _ ∷ []) _ (word-halves _ _ _ _ p .1) (word-halves _ _ _ _ q .1)
+  digital-events = word-join (_ ∷ _ ∷ _ ∷ _ ∷ _ ∷ freeEvents) _ (word-halves _ _ _ _ p .1) (word-halves _ _ _ _ q .1)
 
 -- the first word, and the sixth
 pub digital-stored : (ws : List ℕ) (at first start : ℕ) → set (set ws at first) (at + 5) start

@@ -76,8 +76,8 @@ module _ (alarm : ℕ) (form : Form) (ws : List ℕ) (from : ℕ) (suppressed : 
 
   event-is : (place i j : ℕ) → place < 6 → i < 3 → j ≡ conditionBit place 0 + i → eventAt alarm (kindIn form ws from) suppressed time j ≡ eventOf place i
   event-is place i j h l p =
-      let m : (j - 6) % 3 ≡ i = omega arith in
-      rw (le-ltb j 6 (omega arith), m, own-condition form ws from place j (omega arith), lt-ltb (conditionOf form place) 7 (small-condition form place h))
+      let m : (j - firstCondition) % 3 ≡ i = omega arith in
+      rw (le-ltb j firstCondition (omega arith), m, own-condition form ws from place j (omega arith), lt-ltb (conditionOf form place) 7 (small-condition form place h))
 
   -- the bits of the condition at a place
   pub condition-log : (place word : ℕ) → place < 6 → alarm < 256 → severityOf place < 65536

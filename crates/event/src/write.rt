@@ -88,8 +88,9 @@ fn put_whole(out: &mut [u8], at: usize, number: u8, suppressed: bool, time: u64,
         return at;
     }
     let first = head(number, 7, 1, suppressed, 0);
-    let middle = put_three(out, at, first, time, word);
-    put_three(out, middle, first + 3 * KIND, time, word / 8)
+    let second = put_three(out, at, first, time, word);
+    let third = put_three(out, second, first + 3 * KIND, time, word / 8);
+    put_three(out, third, first + 6 * KIND, time, word / 64)
 }
 
 // The records of the three bits of the condition at a place. Without a bit nothing is read.

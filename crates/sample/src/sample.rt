@@ -7,6 +7,7 @@ ghost use lib.ListN.{length, getD};
 ghost use lib.Seq.{sets};
 ghost use lib.Ieee.{binary32, ofBits, toBits};
 ghost use Rattle.wire.specs.Bits.{bit};
+ghost use Rattle.wire.specs.Internal.Places.{sampledFlag};
 ghost use Rattle.layout.specs.Internal.Words.{lowerOf};
 ghost use Rattle.settings.specs.Numbers.{newRate};
 ghost use Rattle.sample.specs.Internal.Sample.{staysIn, rateIn, sampleIn, sampledIn};
@@ -28,7 +29,7 @@ fn stays_in(flags: u32, period: u32, sampled: u64, time: u64) -> bool
 
 // The pattern of a rate that does not stay: from the stored value to a new one, or 0 where there is none.
 fn new_rate(flags: u32, enabled: bool, period: u32, stored: u64, x: f32) -> u32
-    ensures { λ r. ⌜ r ≡ cond (enabled && bit flags 3) (toBits binary32 (newRate period (ofBits binary32 (lowerOf stored)) x)) 0 ⌝ }
+    ensures { λ r. ⌜ r ≡ cond (enabled && bit flags sampledFlag) (toBits binary32 (newRate period (ofBits binary32 (lowerOf stored)) x)) 0 ⌝ }
 {
     if enabled & (flags / SAMPLED % 2 == 1) {
         return rate_pattern(period, lower(stored), x);

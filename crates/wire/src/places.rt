@@ -16,7 +16,7 @@ pub const LOW_RUN: u32 = 32;
 pub const COUNT_RESET: u32 = 16;
 
 // The conditions, of both words. A digital alarm has the first one only.
-pub const CONDITIONS: u32 = 64;
+pub const CONDITIONS: u32 = 512;
 
 // What a condition keeps in the flags, here of the first one: in alarm, unacknowledged, its row of met scans goes on.
 pub const HH: u32 = CONDITIONS;
@@ -35,5 +35,5 @@ pub const ROCPOS: u32 = 8 * LL;
 
 pub const ROCNEG: u32 = 8 * ROCPOS;
 
-// A bit for each of the six, at every third place: 111111 to base 8.
+// A bit for each of the six, at every third place.
 pub const SIX: u32 = 0o111111;

@@ -8,7 +8,7 @@ use lib.ListN.{getD, set}
 use lib.Ieee.{Float, binary32, ofBits, toBits}
 use Rattle.wire.specs.Bits.{bit}
 use Rattle.wire.specs.Internal.Words.{wordOf, spread}
-use Rattle.wire.specs.Internal.Places.{conditionUnit, conditionBit}
+use Rattle.wire.specs.Internal.Places.{highFlag, lowFlag, conditionUnit, conditionBit}
 use Rattle.layout.specs.Internal.Words.{lowerOf, upperOf, pairOf}
 use Rattle.settings.specs.Numbers.{newRate}
 use Rattle.condition.specs.Internal.Outcome.{ackBits}
@@ -24,7 +24,7 @@ rowBegins flags enabled met k = (enabled && bit met (3 * k)) && not (bit flags (
 -- the runs of the high and the low side, then those rows
 abbrev pub allBegin : ℕ → Bool → ℕ → List Bool
 allBegin flags enabled met =
-    (enabled && (bit met 0 || bit met 3) && not (bit flags 4)) ∷ (enabled && (bit met 6 || bit met 9) && not (bit flags 5))
+    (enabled && (bit met 0 || bit met 3) && not (bit flags highFlag)) ∷ (enabled && (bit met 6 || bit met 9) && not (bit flags lowFlag))
     ∷ rowBegins flags enabled met 0 ∷ rowBegins flags enabled met 1 ∷ rowBegins flags enabled met 2 ∷ rowBegins flags enabled met 3
     ∷ rowBegins flags enabled met 4 ∷ rowBegins flags enabled met 5 ∷ []
 
@@ -44,7 +44,7 @@ readyBits flags high low duration time =
 -- when the runs began that a scan goes on with, or begins
 abbrev pub readyIn : ℕ → ℕ → ℕ → ℕ → ℕ → ℕ
 readyIn flags high low duration time =
-    wordOf (spread (readyBits flags (cond (bit flags 4) high time) (cond (bit flags 5) low time) duration time))
+    wordOf (spread (readyBits flags (cond (bit flags highFlag) high time) (cond (bit flags lowFlag) low time) duration time))
 
 -- the modes after a scan say that the alarm is enabled
 abbrev pub enabledIn : ℕ → Bool

@@ -10,7 +10,8 @@ use Rattle.settings.specs.declared.types.Kind.the-variants.{Digital, Analog}
 use Rattle.settings.specs.Severity.{acting}
 use Rattle.event.specs.Event.{Event}
 
--- bits 0 to 4 are kinds 1 to 5, the next is never set; then come, three to a condition, kinds 6, 7, 8
+-- bits 0 to 4 are kinds 1 to 5, the free ones behind them are never set, so that what is said of these does not matter; then come, three
+-- to a condition, kinds 6, 7, 8
 abbrev pub kindAt : ℕ → ℕ
 kindAt k = cond (ltb k firstCondition) (k + 1) (6 + (k - firstCondition) % 3)
 

@@ -4,7 +4,7 @@ use mathlib.Core.Bool.{Bool, false}
 use mathlib.Core.List.{List, [], _∷_}
 use Rattle.wire.specs.Bits.{bit}
 use Rattle.wire.specs.Internal.Words.{wordOf}
-use Rattle.wire.specs.Internal.Places.{conditionBit}
+use Rattle.wire.specs.Internal.Places.{disabledFlag, suppressedFlag, faultedFlag, sampledFlag, highFlag, lowFlag, freeFlags, conditionBit}
 use lib.Ieee.{Float, binary32, ofBits, toBits}
 use Rattle.settings.specs.Condition as Condition
 use Rattle.level.specs.Internal.Sample.{Sample}
@@ -39,16 +39,16 @@ pub record DigitalHeld : Type 0 where
 abbrev pub lookDigital : State → DigitalHeld
 lookDigital s =
     record {
-      disabled = bit (s .flags) 0;
-      suppressed = bit (s .flags) 1;
-      faulted = bit (s .flags) 2;
+      disabled = bit (s .flags) disabledFlag;
+      suppressed = bit (s .flags) suppressedFlag;
+      faulted = bit (s .flags) faultedFlag;
       previous = s .previous;
       cell = cellAt s 0 (s .hh);
     }
 
 abbrev pub digitalFlags : DigitalHeld → List Bool
 digitalFlags d =
-    d .disabled ∷ d .suppressed ∷ d .faulted ∷ false ∷ false ∷ false ∷ d .cell .alarm ∷ d .cell .unacked ∷ d .cell .row ∷ []
+    d .disabled ∷ d .suppressed ∷ d .faulted ∷ false ∷ false ∷ false ∷ freeFlags (d .cell .alarm ∷ d .cell .unacked ∷ d .cell .row ∷ [])
 
 -- what a digital alarm does not use stays as it is
 abbrev pub hideDigital : State → DigitalHeld → State
@@ -108,8 +108,8 @@ pub record AnalogHeld (X : Type 0) : Type 0 where
   pub cell : Six → Cell
 
 abbrev pub runOf : State → Side → Run
-runOf s High = record { on = bit (s .flags) 4; start = s .high }
-runOf s Low = record { on = bit (s .flags) 5; start = s .low }
+runOf s High = record { on = bit (s .flags) highFlag; start = s .high }
+runOf s Low = record { on = bit (s .flags) lowFlag; start = s .low }
 
 abbrev pub cellOf : State → Six → Cell
 cellOf s HH = cellAt s 0 (s .hh)
@@ -130,10 +130,10 @@ realPatterns = record { value = ofBits binary32; pattern = toBits binary32 }
 abbrev pub lookAnalog : {X : Type 0} → Patterns X → State → AnalogHeld X
 lookAnalog p s =
     record {
-      disabled = bit (s .flags) 0;
-      suppressed = bit (s .flags) 1;
-      faulted = bit (s .flags) 2;
-      held = bit (s .flags) 3;
+      disabled = bit (s .flags) disabledFlag;
+      suppressed = bit (s .flags) suppressedFlag;
+      faulted = bit (s .flags) faultedFlag;
+      held = bit (s .flags) sampledFlag;
       previous = s .previous;
       sample = record { value = p .value (s .sample); rate = p .value (s .rate); at = s .sampled };
       run = runOf s;
@@ -146,8 +146,9 @@ cellFlags c rest = c .alarm ∷ c .unacked ∷ c .row ∷ rest
 abbrev pub analogFlags : {X : Type 0} → AnalogHeld X → List Bool
 analogFlags a =
     a .disabled ∷ a .suppressed ∷ a .faulted ∷ a .held ∷ a .run High .on ∷ a .run Low .on
-    ∷ cellFlags (a .cell HH)
-    (cellFlags (a .cell H) (cellFlags (a .cell L) (cellFlags (a .cell LL) (cellFlags (a .cell ROCPos) (cellFlags (a .cell ROCNeg) [])))))
+    ∷ freeFlags
+    (cellFlags (a .cell HH)
+    (cellFlags (a .cell H) (cellFlags (a .cell L) (cellFlags (a .cell LL) (cellFlags (a .cell ROCPos) (cellFlags (a .cell ROCNeg) []))))))
 
 -- the packed state with these flags and patterns of sample and rate
 abbrev pub packed : {X : Type 0} → AnalogHeld X → ℕ → ℕ → ℕ → State
