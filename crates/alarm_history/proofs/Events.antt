@@ -22,6 +22,7 @@ use Rattle.alarm_history.specs.Events.{conditionEvent, wholeLog, conditi
 use Rattle.alarm_history.specs.Internal.After.{digitalFrom, analogFrom, wholeBits, conditionBits}
 use Rattle.alarm_history.proofs.Digital.{digital-required, digital-rules, digital-bits}
 use Rattle.alarm_history.proofs.Analog.{six, analog-required, analog-rules, analog-bits}
+use Rattle.wire.specs.Internal.Places.{firstCondition}
 
 module _ (n : ℕ) (a : Alarm) (s : Scan) (past : List Scan) where
   -- the events of the bits from the k-th on
@@ -43,12 +44,12 @@ module _ (n : ℕ) (a : Alarm) (s : Scan) (past : List Scan) where
   conditions-log k [] p = refl
   conditions-log k (c ∷ cs) p = rw (p .0, p .1, p .2, conditions-log (suc (suc (suc k))) cs (p .3))
 
-  whole-log : (cs : List Condition) → Placed 6 cs
+  whole-log : (cs : List Condition) → Placed firstCondition cs
       → from 0 (wholeBits s past ++ foldr (conditionBits (rulesOf a) s past) [] cs) ≡ wholeLog n a s past (foldr (conditionLog n a s past) [] cs)
   unfolding eventsFrom
-  whole-log cs p = ap (wholeLog n a s past) (conditions-log 6 cs p)
+  whole-log cs p = ap (wholeLog n a s past) (conditions-log firstCondition cs p)
 
-  placed : (k : Kind) → a .kind ≡ k → Placed 6 (conditionsOf k)
+  placed : (k : Kind) → a .kind ≡ k → Placed firstCondition (conditionsOf k)
   placed (Digital severity) e = (rw e, rw e, rw e, tt)
   placed (Analog limits severities period) e =
       (rw e, rw e, rw e, (rw e, rw e, rw e, (rw e, rw e, rw e, (rw e, rw e, rw e, (rw e, rw e, rw e, (rw e, rw e, rw e, tt))))))

@@ -10,6 +10,7 @@ use Rattle.wire.specs.Bits.{bit}
 use Rattle.wire.specs.Internal.Words.{wordOf}
 use Rattle.wire.proofs.WordLaws.{bit-shift}
 use Rattle.wire.proofs.MaskLaws.{Thirds, every, same, of-word}
+use Rattle.wire.specs.Internal.Places.{firstCondition, conditionUnit, conditionBit, sixBits}
 use Rattle.condition.specs.Internal.Outcome.{outcomeBits}
 use Rattle.six.specs.declared.decide.Cells.{Cells}
 use Rattle.six.specs.Internal.Cells.{cell, six, cellsOf}
@@ -56,7 +57,7 @@ six-alike t z o p h =
 module _ (flags met : ℕ) where
   -- the condition at place k was in alarm
   abbrev was : ℕ → Bool
-  was k = bit flags (6 + 3 * k)
+  was k = bit flags (conditionBit k 0)
 
   pub same-ready : {ready other : ℕ} → ready ≡ other → SameReady flags met ready other
   same-ready h = record { alike = λ enabled frees acks required. ap (λ (r : ℕ). cellsOf flags enabled met frees r acks required) h }
@@ -65,31 +66,31 @@ module _ (flags met : ℕ) where
   same-frees h = record { alike = λ enabled ready acks required. ap (λ (f : ℕ). cellsOf flags enabled met f ready acks required) h }
 
   -- no condition is met and not in alarm
-  pub ready-unasked : bitXor (bitAnd met 37449) (bitAnd (bitAnd met 37449) (flags / 64)) ≡ 0 → (ready other : ℕ) → SameReady flags met ready other
+  pub ready-unasked : bitXor (bitAnd met sixBits) (bitAnd (bitAnd met sixBits) (flags / conditionUnit)) ≡ 0 → (ready other : ℕ) → SameReady flags met ready other
   unfolding cellsOf
   ready-unasked z ready other =
-      let rising : Thirds (bitXor (bitAnd met 37449) (bitAnd (bitAnd met 37449) (flags / 64))) (λ k. bit met (3 * k) && not (was k)) =
-      same (lacking (of-word (every true) met) (flags / 64)) (λ k. ap (λ (b : Bool). bit met (3 * k) && not b) (bit-shift flags 6 (3 * k)))
+      let rising : Thirds (bitXor (bitAnd met sixBits) (bitAnd (bitAnd met sixBits) (flags / conditionUnit))) (λ k. bit met (3 * k) && not (was k)) =
+      same (lacking (of-word (every true) met) (flags / conditionUnit)) (λ k. ap (λ (b : Bool). bit met (3 * k) && not b) (bit-shift flags firstCondition (3 * k)))
       in
       record {
         alike = λ enabled frees acks required.
             six-alike rising z (cell flags enabled met frees ready acks required) (cell flags enabled met frees other acks required)
             (λ k.
             ready-alike enabled (bit met (3 * k)) (bit frees (3 * k)) (bit ready (3 * k)) (bit other (3 * k)) (bit acks (3 * k)) required (was k)
-            (bit flags (7 + 3 * k)));
+            (bit flags (conditionBit k 1)));
       }
 
   -- none is in alarm and not met
-  pub frees-unasked : bitXor (bitAnd (flags / 64) 37449) (bitAnd (bitAnd (flags / 64) 37449) met) ≡ 0 → (frees other : ℕ) → SameFrees flags met frees other
+  pub frees-unasked : bitXor (bitAnd (flags / conditionUnit) sixBits) (bitAnd (bitAnd (flags / conditionUnit) sixBits) met) ≡ 0 → (frees other : ℕ) → SameFrees flags met frees other
   unfolding cellsOf
   frees-unasked z frees other =
-      let falling : Thirds (bitXor (bitAnd (flags / 64) 37449) (bitAnd (bitAnd (flags / 64) 37449) met)) (λ k. was k && not (bit met (3 * k))) =
-      same (lacking (of-word (every true) (flags / 64)) met) (λ k. ap (λ (b : Bool). b && not (bit met (3 * k))) (bit-shift flags 6 (3 * k)))
+      let falling : Thirds (bitXor (bitAnd (flags / conditionUnit) sixBits) (bitAnd (bitAnd (flags / conditionUnit) sixBits) met)) (λ k. was k && not (bit met (3 * k))) =
+      same (lacking (of-word (every true) (flags / conditionUnit)) met) (λ k. ap (λ (b : Bool). b && not (bit met (3 * k))) (bit-shift flags firstCondition (3 * k)))
       in
       record {
         alike = λ enabled ready acks required.
             six-alike falling z (cell flags enabled met frees ready acks required) (cell flags enabled met other ready acks required)
             (λ k.
             frees-alike enabled (bit met (3 * k)) (bit frees (3 * k)) (bit other (3 * k)) (bit ready (3 * k)) (bit acks (3 * k)) required (was k)
-            (bit flags (7 + 3 * k)));
+            (bit flags (conditionBit k 1)));
       }

@@ -8,6 +8,7 @@ use Rattle.wire.specs.Bits.{bit}
 use Rattle.wire.specs.Internal.Words.{wordOf, spread}
 use Rattle.wire.proofs.WordLaws.{word-halves, word-join}
 use Rattle.wire.proofs.MaskLaws.{bit-spread}
+use Rattle.wire.specs.Internal.Places.{freeFlags, freeEvents, conditionUnit, conditionBit}
 use Rattle.condition.specs.Internal.Outcome.{outcomeBits, ackBits}
 use Rattle.six.specs.Internal.Cells.{cell, six, cellsOf}
 use native.Mathlib.Omega.{arith}
@@ -25,12 +26,12 @@ cell-lists : (flags : ℕ) (enabled required : Bool) (met frees ready acks : Lis
     → cell flags enabled (wordOf (spread met)) (wordOf (spread frees)) (wordOf (spread ready)) (wordOf (spread acks)) required k
     ≡ outcomeBits
     (record { enabled = enabled; met = getD met k false; frees = getD frees k false; ready = getD ready k false; ack = getD acks k false; required = required })
-    (bit flags (6 + 3 * k)) (bit flags (7 + 3 * k))
+    (bit flags (conditionBit k 0)) (bit flags (conditionBit k 1))
 cell-lists flags enabled required met frees ready acks k = rw (bit-spread met k, bit-spread frees k, bit-spread ready k, bit-spread acks k)
 
 -- modes, the sample and the runs, and the conditions
 flags-join : (d s f e h l : Bool) (cells : List Bool)
-    → wordOf (d ∷ s ∷ f ∷ []) + 8 * wordOf (e ∷ h ∷ l ∷ []) + 64 * wordOf cells ≡ wordOf (d ∷ s ∷ f ∷ e ∷ h ∷ l ∷ cells)
+    → wordOf (d ∷ s ∷ f ∷ []) + 8 * wordOf (e ∷ h ∷ l ∷ []) + conditionUnit * wordOf cells ≡ wordOf (d ∷ s ∷ f ∷ e ∷ h ∷ l ∷ freeFlags cells)
 unfolding wordOf
 flags-join d s f e h l cells = omega arith
 
@@ -55,7 +56,7 @@ module _ {X : Type 0} (n : Numbers X) (p : Patterns X) (a : AnalogOf X) (s : Sta
         ack = getD (ackBits word (s .previous)) k false;
         required = bit (a .flags) 4;
       })
-      (bit (s .flags) (6 + 3 * k)) (bit (s .flags) (7 + 3 * k))
+      (bit (s .flags) (conditionBit k 0)) (bit (s .flags) (conditionBit k 1))
 
   pub cells-are : cellsOf (s .flags) (not (after .disabled)) (wordOf (spread (metBits n a (n .number x) (after .sample .rate)))) (wordOf (spread (freesBits n a (n .number x))))
       (wordOf (spread ready)) (wordOf (spread (ackBits word (s .previous)))) (bit (a .flags) 4)
@@ -67,11 +68,11 @@ module _ {X : Type 0} (n : Numbers X) (p : Patterns X) (a : AnalogOf X) (s : Sta
 
   pub analog-flags : {m r : ℕ} → m ≡ wordOf (modeBits (bit (s .flags) 0) (bit (s .flags) 1) word (s .previous))
       → r ≡ wordOf (after .held ∷ after .run High .on ∷ after .run Low .on ∷ [])
-      → m % 8 + 8 * r + 64 * wordOf (six (take 3) outcomes) ≡ wordOf (analogFlags after)
+      → m % 8 + 8 * r + conditionUnit * wordOf (six (take 3) outcomes) ≡ wordOf (analogFlags after)
   unfolding modeBits readyBits metBits freesBits ackBits
   analog-flags e q = rw (word-halves _ _ _ _ e .0, q) (flags-join _ _ _ _ _ _ (six (take 3) outcomes))
 
   pub analog-events : {m : ℕ} → m ≡ wordOf (modeBits (bit (s .flags) 0) (bit (s .flags) 1) word (s .previous))
-      → m / 8 + 64 * wordOf (six (drop 3) outcomes) ≡ wordOf (analogEvents n a x word time (lookAnalog p s))
+      → m / 8 + conditionUnit * wordOf (six (drop 3) outcomes) ≡ wordOf (analogEvents n a x word time (lookAnalog p s))
   unfolding modeBits readyBits metBits freesBits ackBits
-  analog-events e = word-join (_ ∷ _ ∷ _ ∷ _ ∷ _ ∷ _ ∷ []) (six (drop 3) outcomes) (word-halves _ _ _ _ e .1) refl
+  analog-events e = word-join (_ ∷ _ ∷ _ ∷ _ ∷ _ ∷ freeEvents) (six (drop 3) outcomes) (word-halves _ _ _ _ e .1) refl

@@ -8,6 +8,7 @@ use Rattle.wire.specs.Bits.{bit}
 use Rattle.wire.specs.Internal.Words.{wordOf}
 use Rattle.wire.proofs.WordLaws.{bit-shift, bit-word}
 use Rattle.wire.proofs.MaskLaws.{Thirds, every, same, of-word, differ, with-word, join}
+use Rattle.wire.specs.Internal.Places.{conditionUnit, conditionBit, sixBits}
 use native.Mathlib.Omega.{arith}
 use native.Mathlib.Nat.{zero-div}
 use Rattle.analog.specs.Internal.Packed.{rowBegins}
@@ -26,12 +27,12 @@ thirds-bits {w = w} p = let z : w + 2 * 0 + 4 * 0 ≡ w = omega arith in sym z �
 pub lacking : {w : ℕ} {f : ℕ → Bool} → Thirds w f → (v : ℕ) → Thirds (bitXor w (bitAnd w v)) (λ k. f k && not (bit v (3 * k)))
 lacking {f = f} p v = same (differ p (with-word p v)) (λ k. begins (f k) (bit v (3 * k)))
 
-pub rows-begin : (flags met on : ℕ) (enabled : Bool) → on ≡ cond enabled 37449 0
-    → Thirds (bitXor (bitAnd met on) (bitAnd (bitAnd met on) (flags / 256))) (rowBegins flags enabled met)
+pub rows-begin : (flags met on : ℕ) (enabled : Bool) → on ≡ cond enabled sixBits 0
+    → Thirds (bitXor (bitAnd met on) (bitAnd (bitAnd met on) (flags / (4 * conditionUnit)))) (rowBegins flags enabled met)
 rows-begin flags met on enabled e =
     rw e
-    (same (lacking (of-word (every enabled) met) (flags / 256))
-    (λ k. ap (λ (b : Bool). (enabled && bit met (3 * k)) && not b) (bit-shift flags 8 (3 * k))))
+    (same (lacking (of-word (every enabled) met) (flags / (4 * conditionUnit)))
+    (λ k. ap (λ (b : Bool). (enabled && bit met (3 * k)) && not b) (bit-shift flags (conditionBit 0 2) (3 * k))))
 
 module _ {w : ℕ} {f : ℕ → Bool} (p : Thirds w f) where
   abbrev bits : List Bool

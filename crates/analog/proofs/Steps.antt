@@ -8,6 +8,7 @@ use Rattle.wire.specs.Bits.{bit}
 use Rattle.wire.specs.Internal.Words.{wordOf, spread}
 use Rattle.wire.proofs.WordLaws.{word-low}
 use Rattle.wire.proofs.MaskLaws.{bit-spread}
+use Rattle.wire.specs.Internal.Places.{conditionUnit}
 use Rattle.condition.specs.Internal.Outcome.{ackBits}
 use Rattle.six.specs.declared.decide.Cells.{Cells}
 use Rattle.six.specs.Internal.Cells.{six, cellsOf}
@@ -194,10 +195,10 @@ module _ (a : AnalogOf Float) (ws : List ℕ) (at : ℕ) (x : Reading) (word tim
         cellsOf (n i) (on-is i) (q i) (v i) (readyIn (lowerOf (f i)) (h i) (l i) (d i) time) (wordOf (spread (ackBits word (upperOf (f i))))) (k i))
         ∙ cells-are reals realPatterns a kept x word time
 
-    pub events-are : m / 8 + 64 * decided first high low m met′ frees′ duration required word time .events
+    pub events-are : m / 8 + conditionUnit * decided first high low m met′ frees′ duration required word time .events
         ≡ analogStep reals realPatterns a kept x word time .events
     unfolding analogStep
-    events-are = ap (λ (c : Cells). m / 8 + 64 * c .events) six-are ∙ analog-events reals realPatterns a kept x word time p
+    events-are = ap (λ (c : Cells). m / 8 + conditionUnit * c .events) six-are ∙ analog-events reals realPatterns a kept x word time p
 
     met-bit : (n : ℕ) → bit met′ (3 * n) ≡ getD (metBits reals a (realOf x) (next .sample .rate)) n false
     met-bit n = ap (λ (w : ℕ). bit w (3 * n)) q ∙ bit-spread (metBits reals a (realOf x) (next .sample .rate)) n

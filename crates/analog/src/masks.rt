@@ -2,9 +2,6 @@
 ghost use mathlib.Core.Path.{_≡_};
 ghost use lib.Bits.{bitAnd, bitXor};
 
-// All six: 111111 to base 8.
-pub const SIX: u32 = 37449;
-
 // The bits that `a` has and `b` lacks.
 pub fn only_in(a: u32, b: u32) -> u32
     ensures { λ r. ⌜ r ≡ bitXor a (bitAnd a b) ⌝ }

@@ -14,7 +14,6 @@ ghost use Rattle.state.specs.Internal.Held.{realPatterns};
 ghost use Rattle.analog.specs.Internal.Packed.{SameFrees};
 ghost use Rattle.analog.specs.Internal.Analog.{analogStep};
 use crate::finish::finish;
-use crate::masks::SIX;
 use crate::masks::only_in;
 use condition::mode::modes;
 use layout::half::lower;
@@ -29,13 +28,19 @@ use level::rate::value_of;
 use sample::sample::resample;
 use settings::types::Limits;
 use settings::types::Reading;
+use wire::places::HH;
+use wire::places::SAMPLED;
+use wire::places::SIX;
 use wire::real::from_pattern;
+
+// The first word of an alarm at rest, flags and last command word: only a sample is stored.
+const RESTING: u64 = SAMPLED as u64;
 
 // The conditions that the reading frees, or none where no condition is in alarm and not met: only such a one asks.
 fn frees_in(flags: u32, met: u32, limits: Limits, reading: Reading) -> u32
     ensures { λ r. ⌜ SameFrees flags met r (wordOf (spread (freesBits reals (analogReals 0 0 limits 0) (realOf reading)))) ⌝ }
 {
-    if only_in((flags / 64) & SIX, met) == 0 {
+    if only_in((flags / HH) & SIX, met) == 0 {
         return 0;
     }
     frees_word(limits, reading)
@@ -52,8 +57,10 @@ pub fn analog_step(
     time: u64,
 ) -> u32
     requires { ⌜ (from + 8 ≤ length (now settings)) × (at + 11 ≤ length (now states)) ⌝ }
-    ensures { λ r. ⌜ r ≡ analogStep reals realPatterns (realAnalog (alarmIn Form.Analog (now (settings .entry)) from)) (stateIn (now (states .entry)) at) reading word time .events ⌝ }
-    ensures { λ _. ⌜ now (states .exit) ≡ sets (now (states .entry)) at (stateWords (analogStep reals realPatterns (realAnalog (alarmIn Form.Analog (now (settings .entry)) from)) (stateIn (now (states .entry)) at) reading word time .state)) ⌝ }
+    ensures { λ r. ⌜ r ≡ analogStep reals realPatterns (realAnalog (alarmIn Form.Analog (now (settings .entry)) from))
+        (stateIn (now (states .entry)) at) reading word time .events ⌝ }
+    ensures { λ _. ⌜ now (states .exit) ≡ sets (now (states .entry)) at (stateWords (analogStep reals realPatterns
+        (realAnalog (alarmIn Form.Analog (now (settings .entry)) from)) (stateIn (now (states .entry)) at) reading word time .state)) ⌝ }
 {
     let first = states[at];
     let flags = lower(first);
@@ -72,8 +79,7 @@ pub fn analog_step(
     let set = flags_in(settings, from);
     let limits = limits_in(settings, from);
     let met = met_word(set, limits, period, reading, from_pattern(rate));
-    // at rest the flags say only that a sample is stored
-    if (word == 0) & (first == 8) & (met == 0) {
+    if (word == 0) & (first == RESTING) & (met == 0) {
         return 0;
     }
     finish(

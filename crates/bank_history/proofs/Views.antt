@@ -6,6 +6,7 @@ use Prim.Native.Nat.{ℕ, _+_, _*_}
 use lib.ListN.{getD}
 use Rattle.wire.specs.Bits.{bit}
 use Rattle.wire.proofs.WordLaws.{bit-word}
+use Rattle.wire.specs.Internal.Places.{conditionBit}
 use Rattle.condition.specs.Command.{countResets}
 use Rattle.condition.specs.Internal.Mark.{Turn, marksAfter, timeStampAfter}
 use Rattle.settings.specs.Numbers.{Numbers, AnalogOf}
@@ -40,7 +41,7 @@ module _ (a : Alarm) (s : State) (x : Scan) where
 
   digital-turn : turnAt (digitalRequired (a .flags)) (startsOf (digitalStepped .state)) (digitalStepped .events) (x .time) 0 ≡ digitalTurn a x (lookDigital s)
   unfolding digitalStep
-  digital-turn = rw (digital-bit 4, digital-bit 6, digital-bit 7, digital-bit 8) refl
+  digital-turn = rw (digital-bit 4, digital-bit (conditionBit 0 0), digital-bit (conditionBit 0 1), digital-bit (conditionBit 0 2)) refl
 
   pub digital-view : (words words′ : List ℕ) (at : ℕ) (past : List Scan) → DigitalView a s words at past
       → marksAt words′ (at + 1)
@@ -86,12 +87,12 @@ module _ {X : Type 0} (n : Numbers X) (q : Patterns X) (a : AnalogOf X) (s : Sta
 
   analog-turn : (c : Six) → turnBits c ≡ analogTurn n a x (lookAnalog q s) c
   unfolding analogStep
-  analog-turn HH = rw (analog-bit 4, analog-bit 6, analog-bit 7, analog-bit 8) refl
-  analog-turn H = rw (analog-bit 4, analog-bit 9, analog-bit 10, analog-bit 11) refl
-  analog-turn L = rw (analog-bit 4, analog-bit 12, analog-bit 13, analog-bit 14) refl
-  analog-turn LL = rw (analog-bit 4, analog-bit 15, analog-bit 16, analog-bit 17) refl
-  analog-turn ROCPos = rw (analog-bit 4, analog-bit 18, analog-bit 19, analog-bit 20) refl
-  analog-turn ROCNeg = rw (analog-bit 4, analog-bit 21, analog-bit 22, analog-bit 23) refl
+  analog-turn HH = rw (analog-bit 4, analog-bit (conditionBit 0 0), analog-bit (conditionBit 0 1), analog-bit (conditionBit 0 2)) refl
+  analog-turn H = rw (analog-bit 4, analog-bit (conditionBit 1 0), analog-bit (conditionBit 1 1), analog-bit (conditionBit 1 2)) refl
+  analog-turn L = rw (analog-bit 4, analog-bit (conditionBit 2 0), analog-bit (conditionBit 2 1), analog-bit (conditionBit 2 2)) refl
+  analog-turn LL = rw (analog-bit 4, analog-bit (conditionBit 3 0), analog-bit (conditionBit 3 1), analog-bit (conditionBit 3 2)) refl
+  analog-turn ROCPos = rw (analog-bit 4, analog-bit (conditionBit 4 0), analog-bit (conditionBit 4 1), analog-bit (conditionBit 4 2)) refl
+  analog-turn ROCNeg = rw (analog-bit 4, analog-bit (conditionBit 5 0), analog-bit (conditionBit 5 1), analog-bit (conditionBit 5 2)) refl
 
   -- where what the step packs is read back
   pub analog-view : lookAnalog q (analogStepped .state) ≡ analogNext → (words words′ : List ℕ) (at : ℕ) (past : List Scan) → AnalogView n q a s words at past

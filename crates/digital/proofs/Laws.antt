@@ -6,6 +6,7 @@ use mathlib.Core.List.{List, [], _∷_}
 use Prim.Native.Nat.{ℕ, _≤_}
 use lib.ListN.{take, drop}
 use Rattle.wire.specs.Internal.Words.{howMany}
+use Rattle.wire.specs.Internal.Places.{firstCondition}
 use native.Mathlib.Omega.{arith}
 use Rattle.settings.specs.declared.types.Alarm.{Alarm}
 use Rattle.settings.specs.declared.types.Reading.{Reading}
@@ -28,7 +29,7 @@ module _ (a : Alarm) (x : Reading) (word time : ℕ) (d : DigitalHeld) where
   -- ---- a disabled alarm
 
   pub no-events-digital : disabledAfter word (d .disabled) ≡ true
-      → (drop 6 (digitalEvents a x word time d) ≡ false ∷ false ∷ false ∷ [])
+      → (drop firstCondition (digitalEvents a x word time d) ≡ false ∷ false ∷ false ∷ [])
       × (digitalAfter a x word time d .cell .alarm ≡ false)
       × (digitalAfter a x word time d .cell .unacked ≡ false)
       × (digitalAfter a x word time d .cell .row ≡ false)

@@ -7,6 +7,7 @@ use lib.ListN.{getD, set}
 use Rattle.wire.specs.Bits.{bit}
 use Rattle.wire.specs.Internal.Words.{wordOf}
 use Rattle.wire.proofs.WordLaws.{word-halves, word-join, bit-digit}
+use Rattle.wire.specs.Internal.Places.{freeFlags, freeEvents, conditionUnit, conditionBit}
 use Rattle.condition.specs.Internal.Outcome.{outcomeBits}
 use native.Mathlib.Omega.{arith}
 use Rattle.settings.specs.declared.types.Alarm.{Alarm}
@@ -17,24 +18,25 @@ use Rattle.layout.specs.Internal.Words.{lowerOf, upperOf, pairOf}
 use Rattle.level.specs.Level.{bitMet}
 use Rattle.state.specs.Internal.State.{State, stateWords, stateIn}
 use Rattle.state.specs.Internal.Held.{DigitalHeld, lookDigital, digitalFlags, hideDigital}
-use Rattle.digital.specs.Internal.Digital.{digitalTold, digitalAfter, digitalEvents, digitalStep}
+use Rattle.digital.specs.Internal.Digital.{digitalTold, digitalAfter, digitalEvents, digitalStep, restFlags}
 use Rattle.state.proofs.Words.{pair-back, copied, stay, n1, n2, n3, n4, n6, n7, n8, n9, n10}
 
--- modes, three free bits, and one condition
-nine-bits : (d s f a u r : Bool) → wordOf (d ∷ s ∷ f ∷ []) + 64 * wordOf (a ∷ u ∷ r ∷ []) ≡ wordOf (d ∷ s ∷ f ∷ false ∷ false ∷ false ∷ a ∷ u ∷ r ∷ [])
+-- modes, what a digital alarm does not use, and one condition
+flags-join : (d s f a u r : Bool) → wordOf (d ∷ s ∷ f ∷ []) + conditionUnit * wordOf (a ∷ u ∷ r ∷ [])
+    ≡ wordOf (d ∷ s ∷ f ∷ false ∷ false ∷ false ∷ freeFlags (a ∷ u ∷ r ∷ []))
 unfolding wordOf
-nine-bits d s f a u r = omega arith
+flags-join d s f a u r = omega arith
 
 module _ (a : Alarm) (s : State) (x : Reading) (word time : ℕ) {m c : ℕ}
     (p : m ≡ wordOf (modeBits (bit (s .flags) 0) (bit (s .flags) 1) word (s .previous)))
-    (q : c ≡ wordOf (outcomeBits (digitalTold a x word time (lookDigital s)) (bit (s .flags) 6) (bit (s .flags) 7))) where
-  pub digital-flags : m % 8 + 64 * (c % 8) ≡ wordOf (digitalFlags (digitalAfter a x word time (lookDigital s)))
+    (q : c ≡ wordOf (outcomeBits (digitalTold a x word time (lookDigital s)) (bit (s .flags) (conditionBit 0 0)) (bit (s .flags) (conditionBit 0 1)))) where
+  pub digital-flags : m % 8 + conditionUnit * (c % 8) ≡ wordOf (digitalFlags (digitalAfter a x word time (lookDigital s)))
   unfolding modeBits
-  digital-flags = rw (word-halves _ _ _ _ p .0, word-halves _ _ _ _ q .0) (nine-bits _ _ _ _ _ _)
+  digital-flags = rw (word-halves _ _ _ _ p .0, word-halves _ _ _ _ q .0) (flags-join _ _ _ _ _ _)
 
-  pub digital-events : m / 8 + 64 * (c / 8) ≡ wordOf (digitalEvents a x word time (lookDigital s))
+  pub digital-events : m / 8 + conditionUnit * (c / 8) ≡ wordOf (digitalEvents a x word time (lookDigital s))
   unfolding modeBits
-  digital-events = word-join (_ ∷ _ ∷ _ ∷ _ ∷ _ ∷ _ ∷ []) _ (word-halves _ _ _ _ p .1) (word-halves _ _ _ _ q .1)
+  digital-events = word-join (_ ∷ _ ∷ _ ∷ _ ∷ _ ∷ freeEvents) _ (word-halves _ _ _ _ p .1) (word-halves _ _ _ _ q .1)
 
 -- the first word, and the sixth
 pub digital-stored : (ws : List ℕ) (at first start : ℕ) → set (set ws at first) (at + 5) start
@@ -69,7 +71,7 @@ digital-done ws at d {l} {first} {start} e b f =
 -- no command, and nothing but in alarm and in a row where the condition is met, acknowledged or not: start and flags stay, and there are no
 -- events
 digital-rests : (a : Alarm) (s : State) (x : Reading) (word time : ℕ) (m u : Bool) → bitMet (a .flags) x ≡ m → word ≡ 0
-    → s .flags ≡ cond m 320 0 + 128 * cond u 1 0
+    → s .flags ≡ restFlags m (cond u 1 0)
     → (s .hh ≡ digitalAfter a x word time (lookDigital s) .cell .start) × (s .flags ≡ wordOf (digitalFlags (digitalAfter a x word time (lookDigital s))))
     × (0 ≡ wordOf (digitalEvents a x word time (lookDigital s)))
 unfolding wordOf
@@ -79,20 +81,20 @@ digital-rests a s x word time false true e w f = rw (e, w, f) (refl, simp and-fa
 digital-rests a s x word time false false e w f = rw (e, w, f) (refl, simp and-false, refl)
 
 -- such a word has nothing in its upper half
-rest-halves : (m : Bool) {w : ℕ} → w ≡ cond m 320 0 + 128 * (w / 128 % 2) → (lowerOf w ≡ w) × (upperOf w ≡ 0)
+rest-halves : (m : Bool) {w : ℕ} → w ≡ restFlags m (w / (2 * conditionUnit) % 2) → (lowerOf w ≡ w) × (upperOf w ≡ 0)
 rest-halves true e = (omega arith, omega arith)
 rest-halves false e = (omega arith, omega arith)
 
 -- its words stay
 pub digital-rest-done : (a : Alarm) (ws : List ℕ) (at : ℕ) (x : Reading) (word time : ℕ) {m : Bool} → m ≡ bitMet (a .flags) x → word ≡ 0
-    → getD ws at 0 ≡ cond m 320 0 + 128 * (getD ws at 0 / 128 % 2)
+    → getD ws at 0 ≡ restFlags m (getD ws at 0 / (2 * conditionUnit) % 2)
     → (0 ≡ digitalStep a (stateIn ws at) x word time .events) × (ws ≡ sets ws at (stateWords (digitalStep a (stateIn ws at) x word time .state)))
 unfolding digitalStep stateIn
 digital-rest-done a ws at x word time {m} e w f =
     let s : State = stateIn ws at in
     let first : ℕ = getD ws at 0 in
     let halves = rest-halves m f in
-    let rests = digital-rests a s x word time m (bit first 7) (sym e) w (halves .0 ∙ f ∙ ap (λ (n : ℕ). cond m 320 0 + 128 * n) (sym (bit-digit first 7))) in
+    let rests = digital-rests a s x word time m (bit first (conditionBit 0 1)) (sym e) w (halves .0 ∙ f ∙ ap (restFlags m) (sym (bit-digit first (conditionBit 0 1)))) in
     let kept : first ≡ pairOf (wordOf (digitalFlags (digitalAfter a x word time (lookDigital s)))) word =
     sym (pair-back first) ∙ (λ i. pairOf (rests .1 i) ((halves .1 ∙ sym w) i))
     in (

@@ -9,7 +9,8 @@ ghost use Rattle.settings.specs.declared.types.Form.{Form};
 ghost use Rattle.layout.specs.Internal.Words.{alarmIn};
 ghost use Rattle.state.specs.Internal.State.{stateIn, stateWords};
 ghost use Rattle.state.specs.Internal.Starts.{keepStart};
-ghost use Rattle.digital.specs.Internal.Digital.{digitalStep};
+ghost use Rattle.digital.specs.Internal.Digital.{digitalStep, restFlags};
+ghost use Rattle.wire.specs.Internal.Places.{conditionUnit};
 use condition::command::acks_all;
 use condition::command::resets_one;
 use condition::mode::modes;
@@ -25,6 +26,10 @@ use level::level::is_bit;
 use settings::types::Reading;
 use state::begin::begin;
 use state::offsets::STARTS;
+use wire::places::CONDITIONS;
+use wire::places::HH;
+use wire::places::HH_ROW;
+use wire::places::HH_UNACKED;
 
 // Stores flags and command word, and the start of the row where it begins.
 fn keep(states: &mut [u64], at: usize, first: u64, begins: bool, time: u64)
@@ -35,16 +40,14 @@ fn keep(states: &mut [u64], at: usize, first: u64, begins: bool, time: u64)
     states[at] = first;
 }
 
-// Of the first word, bits 6 and 8: in alarm, and its row goes on. Bits 0 to 2 are disabled, suppressed and faulted, the upper half is the last
-// command word.
-const IN_ALARM: u64 = 320;
+// Of the first word, whose lower half are the flags and whose upper half is the last command word: in alarm, and its row goes on.
+const IN_ALARM: u64 = (HH + HH_ROW) as u64;
 
-// Bit 7: unacknowledged.
-const UNACKED: u64 = 128;
+const UNACKED: u64 = HH_UNACKED as u64;
 
 // Whether the first word says no more than these, in alarm just where the condition is met: a scan with no command leaves it as it is.
 fn rests(first: u64, met: bool) -> bool
-    ensures { λ r. ⌜ r ≡ eqb first (cond met 320 0 + 128 * (first / 128 % 2)) ⌝ }
+    ensures { λ r. ⌜ r ≡ eqb first (restFlags met (first / (2 * conditionUnit) % 2)) ⌝ }
 {
     let unacked = UNACKED * (first / UNACKED % 2);
     if met {
@@ -66,7 +69,8 @@ pub fn digital_step(
 ) -> u32
     requires { ⌜ (from + 8 ≤ length (now settings)) × (at + 11 ≤ length (now states)) ⌝ }
     ensures { λ r. ⌜ r ≡ digitalStep (alarmIn Form.Digital (now (settings .entry)) from) (stateIn (now (states .entry)) at) reading word time .events ⌝ }
-    ensures { λ _. ⌜ now (states .exit) ≡ sets (now (states .entry)) at (stateWords (digitalStep (alarmIn Form.Digital (now (settings .entry)) from) (stateIn (now (states .entry)) at) reading word time .state)) ⌝ }
+    ensures { λ _. ⌜ now (states .exit) ≡ sets (now (states .entry)) at
+        (stateWords (digitalStep (alarmIn Form.Digital (now (settings .entry)) from) (stateIn (now (states .entry)) at) reading word time .state)) ⌝ }
 {
     let first = states[at];
     let set = flags_in(settings, from);
@@ -80,11 +84,11 @@ pub fn digital_step(
     let m = modes(flags, word, previous);
     let enabled = !(m % 2 == 1);
     let frees = !(set / 4 % 2 == 1) | resets_one(word, previous);
-    let on = flags / 256 % 2 == 1;
+    let on = flags / HH_ROW % 2 == 1;
     let ready = lasted(choose(on, begun, time), duration_in(settings, from), time);
     let ack = acks_all(word, previous);
     let c = condition(
-        flags / 64,
+        flags / HH,
         enabled,
         met,
         frees,
@@ -92,7 +96,7 @@ pub fn digital_step(
         ack,
         set / 2 % 2 == 1,
     );
-    let kept = pair(m % 8 + 64 * (c % 8), word);
+    let kept = pair(m % 8 + CONDITIONS * (c % 8), word);
     keep(states, at, kept, (enabled & met) & !on, time);
-    m / 8 + 64 * (c / 8)
+    m / 8 + CONDITIONS * (c / 8)
 }

@@ -10,6 +10,7 @@ use lib.ListN.{length, length-append}
 use lib.Seq.{sets}
 use Rattle.wire.specs.Number.{bytes}
 use Rattle.wire.proofs.Laws.{sets-append}
+use Rattle.wire.specs.Internal.Places.{firstCondition, conditionUnit, wordBits, conditionBit}
 use Rattle.settings.specs.declared.types.Kind.{Kind}
 use Rattle.settings.specs.declared.types.Form.{Form}
 use Rattle.settings.specs.declared.types.Form.the-variants.{Digital as DigitalForm, Analog as AnalogForm}
@@ -38,18 +39,18 @@ module _ (alarm : ℕ) (kind : Kind) (suppressed : Bool) (time : ℕ) where
       go false e es p q = q
 
   -- the bits of the whole alarm
-  pub whole-log : (word : ℕ) → alarm < 256 → logBytes (eventsOf alarm kind suppressed time 6 0 word) ≡ recordsOf time 6 (headOf alarm 7 1 suppressed 0) word
-  whole-log word a = group 6 0 (headOf alarm 7 1 suppressed 0) word (λ i j v l p q. one j v (omega arith) (omega arith))
+  pub whole-log : (word : ℕ) → alarm < 256 → logBytes (eventsOf alarm kind suppressed time firstCondition 0 word) ≡ recordsOf time firstCondition (headOf alarm 7 1 suppressed 0) word
+  whole-log word a = group firstCondition 0 (headOf alarm 7 1 suppressed 0) word (λ i j v l p q. one j v (omega arith) (omega arith))
     where
-      one : (j v : ℕ) → j < 6 → v ≡ headOf alarm 7 1 suppressed 0 + 65536 * j → eventBytes (eventAt alarm kind suppressed time j) ≡ bytes 8 v ++ bytes 8 time
+      one : (j v : ℕ) → j < firstCondition → v ≡ headOf alarm 7 1 suppressed 0 + 65536 * j → eventBytes (eventAt alarm kind suppressed time j) ≡ bytes 8 v ++ bytes 8 time
       one j v m q =
           let w : v ≡ headOf alarm 7 (j + 1) suppressed 0 = omega arith in
-          rw (lt-ltb j 6 m, w)
+          rw (lt-ltb j firstCondition m, w)
           (event-bytes (record { alarm = alarm; condition = 7; kind = j + 1; suppressed = suppressed; severity = 0; time = time }) a (omega arith)
           (omega arith) (omega arith))
 
 -- the condition of a bit, by the form
-own-condition : (form : Form) (ws : List ℕ) (from place j : ℕ) → (j - 6) / 3 ≡ place → ownCondition (kindIn form ws from) j ≡ conditionOf form place
+own-condition : (form : Form) (ws : List ℕ) (from place j : ℕ) → (j - firstCondition) / 3 ≡ place → ownCondition (kindIn form ws from) j ≡ conditionOf form place
 own-condition DigitalForm ws from place j e = refl
 own-condition AnalogForm ws from place j e = rw e
 
@@ -73,17 +74,17 @@ module _ (alarm : ℕ) (form : Form) (ws : List ℕ) (from : ℕ) (suppressed : 
         time = time;
       }
 
-  event-is : (place i j : ℕ) → place < 6 → i < 3 → j ≡ 6 + 3 * place + i → eventAt alarm (kindIn form ws from) suppressed time j ≡ eventOf place i
+  event-is : (place i j : ℕ) → place < 6 → i < 3 → j ≡ conditionBit place 0 + i → eventAt alarm (kindIn form ws from) suppressed time j ≡ eventOf place i
   event-is place i j h l p =
-      let m : (j - 6) % 3 ≡ i = omega arith in
-      rw (le-ltb j 6 (omega arith), m, own-condition form ws from place j (omega arith), lt-ltb (conditionOf form place) 7 (small-condition form place h))
+      let m : (j - firstCondition) % 3 ≡ i = omega arith in
+      rw (le-ltb j firstCondition (omega arith), m, own-condition form ws from place j (omega arith), lt-ltb (conditionOf form place) 7 (small-condition form place h))
 
   -- the bits of the condition at a place
   pub condition-log : (place word : ℕ) → place < 6 → alarm < 256 → severityOf place < 65536
-      → logBytes (eventsOf alarm (kindIn form ws from) suppressed time 3 (6 + 3 * place) word)
+      → logBytes (eventsOf alarm (kindIn form ws from) suppressed time 3 (conditionBit place 0) word)
       ≡ recordsOf time 3 (headOf alarm (conditionOf form place) 6 suppressed (severityOf place)) word
   condition-log place word h a s =
-      group alarm (kindIn form ws from) suppressed time 3 (6 + 3 * place) (headOf alarm (conditionOf form place) 6 suppressed (severityOf place)) word
+      group alarm (kindIn form ws from) suppressed time 3 (conditionBit place 0) (headOf alarm (conditionOf form place) 6 suppressed (severityOf place)) word
       (λ i j v l p q.
       let w : v ≡ headOf alarm (conditionOf form place) (6 + i) suppressed (severityOf place) = omega arith in
       ap eventBytes (event-is place i j h l p)
@@ -93,7 +94,7 @@ module _ (alarm : ℕ) (form : Form) (ws : List ℕ) (from : ℕ) (suppressed : 
   pub condition-records : (place word : ℕ) {first condition severity stored : ℕ} → place < 6
       → first ≡ headOf alarm condition 6 suppressed severity → alarm < 256 → severity < 65536
       → condition ≡ conditionOf form place → severity ≡ acting stored → stored ≡ storedSeverity (kindIn form ws from) (conditionOf form place)
-      → logBytes (eventsOf alarm (kindIn form ws from) suppressed time 3 (6 + 3 * place) word) ≡ recordsOf time 3 first word
+      → logBytes (eventsOf alarm (kindIn form ws from) suppressed time 3 (conditionBit place 0) word) ≡ recordsOf time 3 first word
   condition-records place word {severity = severity} h e a s c f g =
       let v : severity ≡ severityOf place = f ∙ ap acting g in
       condition-log place word h a (omega arith) ∙ rw (e, c, v)
@@ -108,18 +109,18 @@ module _ (alarm : ℕ) (kind : Kind) (suppressed : Bool) (time : ℕ) where
 
   -- the log of the conditions from a place on
   abbrev pub logFrom : ℕ → ℕ → List ℕ
-  logFrom place rest = logBytes (eventsOf alarm kind suppressed time (3 * (6 - place)) (6 + 3 * place) rest)
+  logFrom place rest = logBytes (eventsOf alarm kind suppressed time (3 * (6 - place)) (conditionBit place 0) rest)
 
   -- the log of the condition at a place
   abbrev pub logAt : ℕ → ℕ → List ℕ
-  logAt place rest = logBytes (eventsOf alarm kind suppressed time 3 (6 + 3 * place) rest)
+  logAt place rest = logBytes (eventsOf alarm kind suppressed time 3 (conditionBit place 0) rest)
 
   from-next : (place rest : ℕ) → place < 6 → logFrom place rest ≡ logAt place rest ++ logFrom (place + 1) (rest / 8)
   from-next place rest h =
       let n : 3 * (6 - place) ≡ 3 + 3 * (6 - (place + 1)) = omega arith in
-      let k : 6 + 3 * place + 3 ≡ 6 + 3 * (place + 1) = omega arith in
-      rw n (ap logBytes (events-split alarm kind suppressed time 3 (3 * (6 - (place + 1))) (6 + 3 * place) rest)
-      ∙ log-append (eventsOf alarm kind suppressed time 3 (6 + 3 * place) rest) _ ∙ rw k)
+      let k : conditionBit place 0 + 3 ≡ conditionBit (place + 1) 0 = omega arith in
+      rw n (ap logBytes (events-split alarm kind suppressed time 3 (3 * (6 - (place + 1))) (conditionBit place 0) rest)
+      ∙ log-append (eventsOf alarm kind suppressed time 3 (conditionBit place 0) rest) _ ∙ rw k)
 
   pub length-next : (place rest : ℕ) → place < 6 → length (logFrom place rest) ≡ length (logAt place rest) + length (logFrom (place + 1) (rest / 8))
   length-next place rest h = ap length (from-next place rest h) ∙ length-append (logAt place rest) (logFrom (place + 1) (rest / 8))
@@ -137,25 +138,25 @@ module _ (alarm : ℕ) (kind : Kind) (suppressed : Bool) (time : ℕ) where
       go : (a z : Bool) → ltb place 6 ≡ a → eqb rest 0 ≡ z → a && not z ≡ false → logFrom place rest ≡ []
       go false z p q _ = let n : 3 * (6 - place) ≡ 0 = omega (arith, ltb-false place 6 p) in rw n
       go true false p q f = absurd (false≢true (sym f))
-      go true true p q _ = rw (eqb-true rest 0 q, no-events alarm kind suppressed time (3 * (6 - place)) (6 + 3 * place))
+      go true true p q _ = rw (eqb-true rest 0 q, no-events alarm kind suppressed time (3 * (6 - place)) (conditionBit place 0))
 
 module _ (alarm : ℕ) (kind : Kind) (suppressed : Bool) (time word : ℕ) (small : alarm < 256) where
   -- the bits of the whole alarm, and those of the conditions
   abbrev whole : List ℕ
-  whole = recordsOf time 6 (headOf alarm 7 1 suppressed 0) word
+  whole = recordsOf time firstCondition (headOf alarm 7 1 suppressed 0) word
 
   abbrev rest : List ℕ
-  rest = logBytes (eventsOf alarm kind suppressed time 18 6 (word / 64))
+  rest = logBytes (eventsOf alarm kind suppressed time 18 firstCondition (word / conditionUnit))
 
-  parts : logBytes (eventsOf alarm kind suppressed time 24 0 word) ≡ whole ++ rest
+  parts : logBytes (eventsOf alarm kind suppressed time wordBits 0 word) ≡ whole ++ rest
   parts =
-      ap logBytes (events-split alarm kind suppressed time 6 18 0 word)
-      ∙ log-append (eventsOf alarm kind suppressed time 6 0 word) (eventsOf alarm kind suppressed time 18 6 (word / 64))
+      ap logBytes (events-split alarm kind suppressed time firstCondition 18 0 word)
+      ∙ log-append (eventsOf alarm kind suppressed time firstCondition 0 word) (eventsOf alarm kind suppressed time 18 firstCondition (word / conditionUnit))
       ∙ rw (whole-log alarm kind suppressed time word small)
 
-  pub parts-length : length (logBytes (eventsOf alarm kind suppressed time 24 0 word)) ≡ length whole + length rest
+  pub parts-length : length (logBytes (eventsOf alarm kind suppressed time wordBits 0 word)) ≡ length whole + length rest
   parts-length = ap length parts ∙ length-append whole rest
 
   pub parts-stores : (out : List ℕ) (start : ℕ) {next : ℕ} {l m : List ℕ} → next ≡ start + length whole → l ≡ sets out start whole → m ≡ sets l next rest
-      → m ≡ sets out start (logBytes (eventsOf alarm kind suppressed time 24 0 word))
+      → m ≡ sets out start (logBytes (eventsOf alarm kind suppressed time wordBits 0 word))
   parts-stores out start a b c = c ∙ rw (a, b, parts) (sets-append out start whole rest)

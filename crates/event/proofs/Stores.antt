@@ -97,23 +97,38 @@ module _ (time : ℕ) where
       let z = recordOf time (head + 65536 + 65536) (word / 2 / 2) in
       e ∙ rw (c, d, a, b, append-nil z) (sets-append (sets out at x) (at + length x) y z ∙ sets-append out at x (y ++ z))
 
-  -- six bits are three and three
-  six-records : (head word : ℕ) → recordsOf time 6 head word ≡ recordsOf time 3 head word ++ recordsOf time 3 (head + 196608) (word / 8)
+  -- three bits, and those above them
+  three-more : (n head word : ℕ)
+      → recordsOf time (suc (suc (suc n))) head word ≡ recordsOf time 3 head word ++ recordsOf time n (head + 196608) (word / 8)
   unfolding recordsOf
-  six-records head word =
+  three-more n head word =
       let p : head + 65536 + 65536 + 65536 ≡ head + 196608 = omega arith in
       let q : word / 2 / 2 / 2 ≡ word / 8 = omega arith in
       simp (p, q, append-assoc)
 
-  pub six-length : (head word : ℕ)
-      → length (recordsOf time 6 head word) ≡ length (recordsOf time 3 head word) + length (recordsOf time 3 (head + 196608) (word / 8))
-  six-length head word = ap length (six-records head word) ∙ length-append (recordsOf time 3 head word) (recordsOf time 3 (head + 196608) (word / 8))
+  -- nine bits, three by three
+  nine-records : (head word : ℕ)
+      → recordsOf time 9 head word
+      ≡ recordsOf time 3 head word ++ (recordsOf time 3 (head + 196608) (word / 8) ++ recordsOf time 3 (head + 393216) (word / 64))
+  nine-records head word =
+      let p : head + 196608 + 196608 ≡ head + 393216 = omega arith in
+      let q : word / 8 / 8 ≡ word / 64 = omega arith in
+      three-more 6 head word ∙ ap (λ (l : List ℕ). recordsOf time 3 head word ++ l) (three-more 3 (head + 196608) (word / 8) ∙ rw (p, q))
 
-  pub six-stores : (out : List ℕ) (at head word : ℕ) {middle : ℕ} {l m : List ℕ}
-      → middle ≡ at + length (recordsOf time 3 head word) → l ≡ sets out at (recordsOf time 3 head word)
-      → m ≡ sets l middle (recordsOf time 3 (head + 196608) (word / 8)) → m ≡ sets out at (recordsOf time 6 head word)
-  six-stores out at head word a b c =
-      c ∙ rw (a, b, six-records head word) (sets-append out at (recordsOf time 3 head word) (recordsOf time 3 (head + 196608) (word / 8)))
+  pub nine-length : (head word : ℕ)
+      → length (recordsOf time 9 head word)
+      ≡ length (recordsOf time 3 head word) + length (recordsOf time 3 (head + 196608) (word / 8)) + length (recordsOf time 3 (head + 393216) (word / 64))
+  nine-length head word = ap length (nine-records head word) ∙ simp length-append (omega arith)
+
+  pub nine-stores : (out : List ℕ) (at head word : ℕ) {second third : ℕ} {l m r : List ℕ}
+      → second ≡ at + length (recordsOf time 3 head word) → l ≡ sets out at (recordsOf time 3 head word)
+      → third ≡ second + length (recordsOf time 3 (head + 196608) (word / 8)) → m ≡ sets l second (recordsOf time 3 (head + 196608) (word / 8))
+      → r ≡ sets m third (recordsOf time 3 (head + 393216) (word / 64)) → r ≡ sets out at (recordsOf time 9 head word)
+  nine-stores out at head word a b c d e =
+      let x = recordsOf time 3 head word in
+      let y = recordsOf time 3 (head + 196608) (word / 8) in
+      let z = recordsOf time 3 (head + 393216) (word / 64) in
+      e ∙ rw (c, d, a, b, nine-records head word) (sets-append (sets out at x) (at + length x) y z ∙ sets-append out at x (y ++ z))
 
   -- no bits, no records
   pub no-records : (n head word q : ℕ) → word ≡ 2 ^ n * q → recordsOf time n head word ≡ []

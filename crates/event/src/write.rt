@@ -9,11 +9,13 @@ ghost use Rattle.wire.specs.Number.{bytes};
 ghost use Rattle.event.specs.Event.{logBytes};
 ghost use Rattle.layout.specs.Internal.Words.{kindIn};
 ghost use Rattle.event.specs.Internal.Bits.{eventsOf, headOf, recordOf, recordsOf};
+ghost use Rattle.wire.specs.Internal.Places.{firstCondition, wordBits, conditionBit};
 use crate::slot::condition_at;
 use crate::slot::severity_at;
 use settings::severity::acting_severity;
 use settings::types::Form;
 use wire::number::put_u64;
+use wire::places::CONDITIONS;
 
 // What one counts in the fields of a record's head: the condition, the kind, the suppressed byte, the severity.
 pub const CONDITION: u64 = 0x100;
@@ -76,18 +78,19 @@ fn put_three(out: &mut [u8], at: usize, head: u64, time: u64, word: u32) -> usiz
     put_bit(out, third, head + KIND + KIND, time, word / 2 / 2)
 }
 
-// The records of the six bits of the whole alarm, which is condition 7 and has severity 0. Most words have none.
+// The records of the bits of the whole alarm, which is condition 7 and has severity 0. Most words have none.
 fn put_whole(out: &mut [u8], at: usize, number: u8, suppressed: bool, time: u64, word: u32) -> usize
-    requires { ⌜ at + length (recordsOf time 6 (headOf number 7 1 suppressed 0) word) ≤ length (now out) ⌝ }
-    ensures { λ r. ⌜ r ≡ at + length (recordsOf time 6 (headOf number 7 1 suppressed 0) word) ⌝ }
-    ensures { λ _. ⌜ now (out .exit) ≡ sets (now (out .entry)) at (recordsOf time 6 (headOf number 7 1 suppressed 0) word) ⌝ }
+    requires { ⌜ at + length (recordsOf time firstCondition (headOf number 7 1 suppressed 0) word) ≤ length (now out) ⌝ }
+    ensures { λ r. ⌜ r ≡ at + length (recordsOf time firstCondition (headOf number 7 1 suppressed 0) word) ⌝ }
+    ensures { λ _. ⌜ now (out .exit) ≡ sets (now (out .entry)) at (recordsOf time firstCondition (headOf number 7 1 suppressed 0) word) ⌝ }
 {
-    if word % 64 == 0 {
+    if word % CONDITIONS == 0 {
         return at;
     }
     let first = head(number, 7, 1, suppressed, 0);
-    let middle = put_three(out, at, first, time, word);
-    put_three(out, middle, first + 3 * KIND, time, word / 8)
+    let second = put_three(out, at, first, time, word);
+    let third = put_three(out, second, first + 3 * KIND, time, word / 8);
+    put_three(out, third, first + 6 * KIND, time, word / 64)
 }
 
 // The records of the three bits of the condition at a place. Without a bit nothing is read.
@@ -104,10 +107,10 @@ fn put_condition(
     word: u32,
 ) -> usize
     requires { ⌜ (from + 8 ≤ length (now settings)) × (place < 6) ×
-        (at + length (logBytes (eventsOf number (kindIn form (now settings) from) suppressed time 3 (6 + 3 * place) word)) ≤ length (now out)) ⌝ }
-    ensures { λ r. ⌜ r ≡ at + length (logBytes (eventsOf number (kindIn form (now (settings .entry)) from) suppressed time 3 (6 + 3 * place) word)) ⌝ }
+        (at + length (logBytes (eventsOf number (kindIn form (now settings) from) suppressed time 3 (conditionBit place 0) word)) ≤ length (now out)) ⌝ }
+    ensures { λ r. ⌜ r ≡ at + length (logBytes (eventsOf number (kindIn form (now (settings .entry)) from) suppressed time 3 (conditionBit place 0) word)) ⌝ }
     ensures { λ _. ⌜ now (out .exit) ≡ sets (now (out .entry)) at
-        (logBytes (eventsOf number (kindIn form (now (settings .entry)) from) suppressed time 3 (6 + 3 * place) word)) ⌝ }
+        (logBytes (eventsOf number (kindIn form (now (settings .entry)) from) suppressed time 3 (conditionBit place 0) word)) ⌝ }
 {
     if word % 8 == 0 {
         return at;
@@ -130,10 +133,10 @@ fn put_conditions(
     word: u32,
 ) -> usize
     requires { ⌜ (from + 8 ≤ length (now settings)) ×
-        (start + length (logBytes (eventsOf number (kindIn form (now settings) from) suppressed time 18 6 word)) ≤ length (now out)) ⌝ }
-    ensures { λ r. ⌜ r ≡ start + length (logBytes (eventsOf number (kindIn form (now (settings .entry)) from) suppressed time 18 6 word)) ⌝ }
+        (start + length (logBytes (eventsOf number (kindIn form (now settings) from) suppressed time 18 firstCondition word)) ≤ length (now out)) ⌝ }
+    ensures { λ r. ⌜ r ≡ start + length (logBytes (eventsOf number (kindIn form (now (settings .entry)) from) suppressed time 18 firstCondition word)) ⌝ }
     ensures { λ _. ⌜ now (out .exit) ≡ sets (now (out .entry)) start
-        (logBytes (eventsOf number (kindIn form (now (settings .entry)) from) suppressed time 18 6 word)) ⌝ }
+        (logBytes (eventsOf number (kindIn form (now (settings .entry)) from) suppressed time 18 firstCondition word)) ⌝ }
 {
     let mut rest = word;
     let mut place = 0;
@@ -171,10 +174,10 @@ pub fn put_events(
     events: u32,
 ) -> usize
     requires { ⌜ (at + 8 ≤ length (now settings)) ×
-        (start + length (logBytes (eventsOf number (kindIn form (now settings) at) suppressed time 24 0 events)) ≤ length (now out)) ⌝ }
-    ensures { λ r. ⌜ r ≡ start + length (logBytes (eventsOf number (kindIn form (now (settings .entry)) at) suppressed time 24 0 events)) ⌝ }
+        (start + length (logBytes (eventsOf number (kindIn form (now settings) at) suppressed time wordBits 0 events)) ≤ length (now out)) ⌝ }
+    ensures { λ r. ⌜ r ≡ start + length (logBytes (eventsOf number (kindIn form (now (settings .entry)) at) suppressed time wordBits 0 events)) ⌝ }
     ensures { λ _. ⌜ now (out .exit) ≡ sets (now (out .entry)) start
-        (logBytes (eventsOf number (kindIn form (now (settings .entry)) at) suppressed time 24 0 events)) ⌝ }
+        (logBytes (eventsOf number (kindIn form (now (settings .entry)) at) suppressed time wordBits 0 events)) ⌝ }
 {
     let next = put_whole(out, start, number, suppressed, time, events);
     put_conditions(
@@ -186,6 +189,6 @@ pub fn put_events(
         form,
         suppressed,
         time,
-        events / 64,
+        events / CONDITIONS,
     )
 }

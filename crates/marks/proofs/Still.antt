@@ -12,6 +12,7 @@ use lib.ListN.{getD, set}
 use lib.Seq.{set-getD}
 use Rattle.wire.specs.Bits.{bit}
 use Rattle.wire.proofs.WordLaws.{bit-zero, bit-shift}
+use Rattle.wire.specs.Internal.Places.{conditionBit, fromCondition}
 use Rattle.settings.specs.declared.types.Alarm.{Alarm}
 use Rattle.marks.specs.Internal.Marks.{turnBy, markCondition, markConditions, markAlarm, markAlarms}
 
@@ -56,19 +57,19 @@ bit-above word a b e h =
 
 module _ (required : Bool) (starts : List ℕ) (word time base n : ℕ) (xs : List ℕ) where
   -- the conditions behind the last that has events, where no counts are reset
-  conditions-left : (k : ℕ) → bit word 4 ≡ false → word / 2 ^ (6 + 3 * n) ≡ 0
+  conditions-left : (k : ℕ) → bit word 4 ≡ false → fromCondition n word ≡ 0
       → markConditions required starts word time base (k + n) xs ≡ markConditions required starts word time base n xs
   unfolding markConditions
   conditions-left zero r e = rw (zero-add n)
   conditions-left (suc k) r e =
       let p : suc k + n ≡ suc (k + n) = omega arith in
-      let a = bit-above word (6 + 3 * n) (6 + 3 * (k + n)) e (omega arith) in
-      let b = bit-above word (6 + 3 * n) (7 + 3 * (k + n)) e (omega arith) in
-      let c = bit-above word (6 + 3 * n) (8 + 3 * (k + n)) e (omega arith) in
+      let a = bit-above word (conditionBit n 0) (conditionBit (k + n) 0) e (omega arith) in
+      let b = bit-above word (conditionBit n 0) (conditionBit (k + n) 1) e (omega arith) in
+      let c = bit-above word (conditionBit n 0) (conditionBit (k + n) 2) e (omega arith) in
       rw (p, r, a, b, c) (condition-still required (getD starts (k + n) 0) time (base + 4 * (k + n)) _ ∙ conditions-left k r e)
 
   -- the loop has ended: every condition is marked, or nothing is left to do
-  pub conditions-end : {rest : ℕ} → n ≤ 6 → rest ≡ word / 2 ^ (6 + 3 * n) → ltb n 6 && (bit word 4 || not (eqb rest 0)) ≡ false
+  pub conditions-end : {rest : ℕ} → n ≤ 6 → rest ≡ fromCondition n word → ltb n 6 && (bit word 4 || not (eqb rest 0)) ≡ false
       → markConditions required starts word time base n xs ≡ markConditions required starts word time base 6 xs
   conditions-end {rest} h e = go (ltb n 6) (bit word 4) (eqb rest 0) refl refl refl
     where

@@ -10,6 +10,8 @@ use crate::words::mark_turn;
 use condition::row::choose;
 use layout::read::flags_in;
 use settings::types::Form;
+use wire::places::CONDITIONS;
+use wire::places::COUNT_RESET;
 
 // AckRequired, from the alarm's settings.
 pub fn required_in(settings: &[u64], at: usize, form: Form) -> bool
@@ -37,8 +39,8 @@ fn mark_conditions(
     requires { ⌜ (base + 24 ≤ length (now marks)) × (from + 6 ≤ length (now states)) ⌝ }
     ensures { λ _. ⌜ now (marks .exit) ≡ markConditions required (startsIn (now (states .entry)) from) events time base 6 (now (marks .entry)) ⌝ }
 {
-    let reset = events / 16 % 2 == 1;
-    let mut rest = events / 64;
+    let reset = events / COUNT_RESET % 2 == 1;
+    let mut rest = events / CONDITIONS;
     let mut place = 0;
     while (place < 6) & (reset | (rest != 0)) {
         mark_turn(
@@ -71,6 +73,6 @@ pub fn mark_alarm(
     ensures { λ _. ⌜ now (marks .exit) ≡ markAlarm required (startsIn (now (states .entry)) from) events time at (now (marks .entry)) ⌝ }
 {
     let reset = marks[at];
-    marks[at] = choose(events / 16 % 2 == 1, time, reset);
+    marks[at] = choose(events / COUNT_RESET % 2 == 1, time, reset);
     mark_conditions(marks, at + 1, required, states, from, events, time);
 }

@@ -7,6 +7,7 @@ ghost use lib.ListN.{length, getD};
 ghost use lib.Seq.{sets};
 ghost use lib.Ieee.{binary32, ofBits, toBits};
 ghost use Rattle.wire.specs.Bits.{bit};
+ghost use Rattle.wire.specs.Internal.Places.{sampledFlag};
 ghost use Rattle.layout.specs.Internal.Words.{lowerOf};
 ghost use Rattle.settings.specs.Numbers.{newRate};
 ghost use Rattle.sample.specs.Internal.Sample.{staysIn, rateIn, sampleIn, sampledIn};
@@ -16,20 +17,21 @@ use layout::half::lower;
 use layout::half::pair;
 use layout::half::upper;
 use level::rate::rate_pattern;
+use wire::places::SAMPLED;
 use wire::real::to_pattern;
 
 // Whether the stored sample stays.
 fn stays_in(flags: u32, period: u32, sampled: u64, time: u64) -> bool
     ensures { λ r. ⌜ r ≡ staysIn flags period sampled time ⌝ }
 {
-    (flags / 8 % 2 == 1) & !(period as u64 <= elapsed(sampled, time))
+    (flags / SAMPLED % 2 == 1) & !(period as u64 <= elapsed(sampled, time))
 }
 
 // The pattern of a rate that does not stay: from the stored value to a new one, or 0 where there is none.
 fn new_rate(flags: u32, enabled: bool, period: u32, stored: u64, x: f32) -> u32
-    ensures { λ r. ⌜ r ≡ cond (enabled && bit flags 3) (toBits binary32 (newRate period (ofBits binary32 (lowerOf stored)) x)) 0 ⌝ }
+    ensures { λ r. ⌜ r ≡ cond (enabled && bit flags sampledFlag) (toBits binary32 (newRate period (ofBits binary32 (lowerOf stored)) x)) 0 ⌝ }
 {
-    if enabled & (flags / 8 % 2 == 1) {
+    if enabled & (flags / SAMPLED % 2 == 1) {
         return rate_pattern(period, lower(stored), x);
     }
     0
@@ -54,7 +56,9 @@ pub fn resample(
 ) -> u32
     requires { ⌜ at + 2 ≤ length (now states) ⌝ }
     ensures { λ r. ⌜ r ≡ rateIn flags enabled period (getD (now (states .entry)) at 0) (getD (now (states .entry)) (at + 1) 0) x time ⌝ }
-    ensures { λ _. ⌜ now (states .exit) ≡ sets (now (states .entry)) at (sampleIn flags enabled period (getD (now (states .entry)) at 0) (getD (now (states .entry)) (at + 1) 0) x time ∷ sampledIn flags period (getD (now (states .entry)) (at + 1) 0) time ∷ []) ⌝ }
+    ensures { λ _. ⌜ now (states .exit) ≡ sets (now (states .entry)) at
+        (sampleIn flags enabled period (getD (now (states .entry)) at 0) (getD (now (states .entry)) (at + 1) 0) x time
+        ∷ sampledIn flags period (getD (now (states .entry)) (at + 1) 0) time ∷ []) ⌝ }
 {
     let stored = states[at];
     let sampled = states[at + 1];

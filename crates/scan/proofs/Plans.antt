@@ -8,6 +8,7 @@ use Rattle.layout.proofs.Laws.{placed-below}
 use Rattle.settings.specs.Internal.Reals.{realAnalog}
 use Rattle.wire.specs.Bits.{bit}
 use Rattle.wire.proofs.WordLaws.{word-lt}
+use Rattle.wire.specs.Internal.Places.{wordBits}
 use Rattle.settings.specs.Alarm.{blank, formAt}
 use Rattle.settings.specs.Numbers.{reals}
 use Rattle.settings.specs.declared.types.Alarm.{Alarm}
@@ -29,13 +30,13 @@ use Rattle.scan.specs.Internal.Plan.{stepEntry, stepPart, stepAt, planOf
 
 -- ---- event words
 
--- an event word has 24 bits
-step-word : (k : Kind) (a : Alarm) (s : State) (x : Reading) (word time : ℕ) → stepKind k a s x word time .events < 2 ^ 24
+-- how long an event word is
+step-word : (k : Kind) (a : Alarm) (s : State) (x : Reading) (word time : ℕ) → stepKind k a s x word time .events < 2 ^ wordBits
 unfolding stepKind digitalStep analogStep
 step-word (Digital severity) a s x word time = omega (arith, word-lt (digitalEvents a x word time (lookDigital s)))
 step-word (Analog g severities period) a s x word time = omega (arith, word-lt (analogEvents reals (realAnalog a) x word time (lookAnalog realPatterns s)))
 
-entry-word : (e : Entry) (a : Alarm) (s : State) (time : ℕ) → stepEntry e a s time .events < 2 ^ 24
+entry-word : (e : Entry) (a : Alarm) (s : State) (time : ℕ) → stepEntry e a s time .events < 2 ^ wordBits
 entry-word (Read x word next) a s time = step-word (a .kind) a s x word time
 entry-word (Refused r) a s time = omega arith
 
@@ -45,7 +46,7 @@ module _ (rec : List ℕ) (digital : ℕ) (alarms : List Alarm) (states : List S
   unfolding planOf
   word-at n i m h = placed-below (λ p. stepAt rec digital alarms states time p .events) n i (replicate 24 0) 0 h m
 
-  pub word-small : (n i : ℕ) → n ≤ 24 → i < n → getD (planOf rec digital n alarms states time .events) i 0 < 2 ^ 24
+  pub word-small : (n i : ℕ) → n ≤ 24 → i < n → getD (planOf rec digital n alarms states time .events) i 0 < 2 ^ wordBits
   unfolding stepPart
   word-small n i m h =
       rw (word-at n i m h) (entry-word (entryAt (formAt digital i) rec (offsetOf digital i) (i + 1)) (getD alarms i blank) (getD states i freshState) time)
@@ -54,7 +55,7 @@ module _ (rec : List ℕ) (digital : ℕ) (alarms : List Alarm) (states : List S
 
 module _ (alarms : List Alarm) (states : List State) (events : List ℕ) (time : ℕ) where
   -- as many events as bits
-  pub up-to-count : (n : ℕ) → ((i : ℕ) → i < n → getD events i 0 < 2 ^ 24) → length (eventsUpTo alarms states events time n) ≡ countOf events n
+  pub up-to-count : (n : ℕ) → ((i : ℕ) → i < n → getD events i 0 < 2 ^ wordBits) → length (eventsUpTo alarms states events time n) ≡ countOf events n
   unfolding eventsUpTo countOf
   up-to-count zero h = refl
   up-to-count (suc n) h =
@@ -62,5 +63,5 @@ module _ (alarms : List Alarm) (states : List State) (events : List ℕ) (time :
         arith,
         length-append (eventsUpTo alarms states events time n) (alarmEvents (suc n) (getD alarms n blank) (getD states n freshState) (getD events n 0) time),
         up-to-count n (λ i l. h i (omega arith)),
-        events-ones (suc n) (getD alarms n blank .kind) (bit (getD states n freshState .flags) 1) time 24 0 (getD events n 0) (h n (omega arith)),
+        events-ones (suc n) (getD alarms n blank .kind) (bit (getD states n freshState .flags) 1) time wordBits 0 (getD events n 0) (h n (omega arith)),
       )

@@ -8,6 +8,7 @@ use Rattle.wire.specs.Bits.{bit}
 use Rattle.wire.specs.Internal.Words.{wordOf}
 use Rattle.wire.proofs.WordLaws.{bit-shift}
 use Rattle.wire.proofs.MaskLaws.{Thirds, every, within, same, both, either, differ, flip, of-word, with-word, join}
+use Rattle.wire.specs.Internal.Places.{conditionUnit, conditionBit, sixBits}
 use Rattle.history.specs.Internal.Condition.{Told, acknowledges, returns, activates, alarmAfter, unackedAfter}
 use Rattle.six.specs.Internal.Cells.{cell, six}
 
@@ -50,10 +51,10 @@ waits false true false false q = refl
 module _ (flags met frees ready acks on need : ℕ) where
   -- the words of the code
   abbrev alarmBefore : ℕ
-  alarmBefore = bitAnd (flags / 64) on
+  alarmBefore = bitAnd (flags / conditionUnit) on
 
   abbrev unackedBefore : ℕ
-  unackedBefore = bitAnd (flags / 128) on
+  unackedBefore = bitAnd (flags / (2 * conditionUnit)) on
 
   abbrev row : ℕ
   row = bitAnd met on
@@ -62,37 +63,37 @@ module _ (flags met frees ready acks on need : ℕ) where
   acknowledging = bitAnd unackedBefore acks
 
   abbrev returning : ℕ
-  returning = bitAnd alarmBefore (bitAnd frees (bitXor row 37449))
+  returning = bitAnd alarmBefore (bitAnd frees (bitXor row sixBits))
 
   abbrev activating : ℕ
-  activating = bitAnd (bitAnd row ready) (bitXor alarmBefore 37449)
+  activating = bitAnd (bitAnd row ready) (bitXor alarmBefore sixBits)
 
   abbrev alarmWord : ℕ
   alarmWord = bitOr activating (bitXor alarmBefore returning)
 
   abbrev unackedWord : ℕ
-  unackedWord = bitOr (bitAnd activating need) (bitAnd (bitXor activating 37449) (bitXor unackedBefore acknowledging))
+  unackedWord = bitOr (bitAnd activating need) (bitAnd (bitXor activating sixBits) (bitXor unackedBefore acknowledging))
 
-  module _ (enabled required : Bool) (p : on ≡ cond enabled 37449 0) (q : need ≡ cond required 37449 0) where
+  module _ (enabled required : Bool) (p : on ≡ cond enabled sixBits 0) (q : need ≡ cond required sixBits 0) where
     abbrev told : ℕ → Told
     told k =
         record { enabled = enabled; met = bit met (3 * k); frees = bit frees (3 * k); ready = bit ready (3 * k); ack = bit acks (3 * k); required = required }
 
     abbrev inAlarm : ℕ → Bool
-    inAlarm k = bit flags (6 + 3 * k)
+    inAlarm k = bit flags (conditionBit k 0)
 
     abbrev unacked : ℕ → Bool
-    unacked k = bit flags (7 + 3 * k)
+    unacked k = bit flags (conditionBit k 1)
 
     -- each has its bit for each condition
     enabled-is : Thirds on (λ k. enabled)
     enabled-is = rw p (every enabled)
 
     alarm-is : Thirds alarmBefore (λ k. enabled && inAlarm k)
-    alarm-is = same (of-word enabled-is (flags / 64)) (λ k. rw (bit-shift flags 6 (3 * k)))
+    alarm-is = same (of-word enabled-is (flags / conditionUnit)) (λ k. rw (bit-shift flags (conditionBit 0 0) (3 * k)))
 
     unacked-is : Thirds unackedBefore (λ k. enabled && unacked k)
-    unacked-is = same (of-word enabled-is (flags / 128)) (λ k. rw (bit-shift flags 7 (3 * k)))
+    unacked-is = same (of-word enabled-is (flags / (2 * conditionUnit))) (λ k. rw (bit-shift flags (conditionBit 0 1) (3 * k)))
 
     row-is : Thirds row (λ k. enabled && told k .met)
     row-is = of-word enabled-is met
@@ -117,14 +118,14 @@ module _ (flags met frees ready acks on need : ℕ) where
         (λ k. waits (activates (told k) (inAlarm k)) enabled (unacked k) (told k .ack) required)
 
     -- what is kept
-    pub kept-fits : (alarmWord ≤ 37449) × (unackedWord ≤ 37449) × (row ≤ 37449)
+    pub kept-fits : (alarmWord ≤ sixBits) × (unackedWord ≤ sixBits) × (row ≤ sixBits)
     kept-fits = (within alarm-after, within unacked-after, within row-is)
 
     pub kept-is : alarmWord + 2 * unackedWord + 4 * row ≡ wordOf (six (take 3) (cell flags enabled met frees ready acks required))
     kept-is = join alarm-after unacked-after row-is
 
     -- the events
-    pub events-fit : (acknowledging ≤ 37449) × (returning ≤ 37449) × (activating ≤ 37449)
+    pub events-fit : (acknowledging ≤ sixBits) × (returning ≤ sixBits) × (activating ≤ sixBits)
     events-fit = (within acknowledges-is, within returns-is, within activates-is)
 
     pub events-is : acknowledging + 2 * returning + 4 * activating ≡ wordOf (six (drop 3) (cell flags enabled met frees ready acks required))

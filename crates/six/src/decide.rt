@@ -3,6 +3,10 @@ ghost use mathlib.Core.Path.{_≡_};
 ghost use mathlib.Core.Bool.{cond};
 ghost use Prim.Native.Nat.{_+_, _*_, _≤_, _<_};
 ghost use Rattle.six.specs.Internal.Cells.{cellsOf};
+ghost use Rattle.wire.specs.Internal.Places.{sixBits, sixRange};
+use wire::places::HH;
+use wire::places::HH_UNACKED;
+use wire::places::SIX;
 
 // Bits of the six conditions: what each keeps, three a condition, and its events, three a condition.
 pub struct Cells {
@@ -10,11 +14,11 @@ pub struct Cells {
     pub events: u32,
 }
 
-// A bit for each of the six, or none: 37449 is 111111 to base 8.
+// A bit for each of the six, or none.
 fn every(b: bool) -> u32
-    ensures { λ r. ⌜ r ≡ cond b 37449 0 ⌝ }
+    ensures { λ r. ⌜ r ≡ cond b sixBits 0 ⌝ }
 {
-    if b { 37449 } else { 0 }
+    if b { SIX } else { 0 }
 }
 
 // Decides the six conditions from the state before the scan.
@@ -27,17 +31,17 @@ pub fn decide(
     acks: u32,
     required: bool,
 ) -> Cells
-    ensures { λ r. ⌜ (r ≡ cellsOf flags enabled met frees ready acks required) × (r .kept < 262144) × (r .events < 262144) ⌝ }
+    ensures { λ r. ⌜ (r ≡ cellsOf flags enabled met frees ready acks required) × (r .kept < sixRange) × (r .events < sixRange) ⌝ }
 {
     let on = every(enabled);
-    let alarm = (flags / 64) & on;
-    let unacked = (flags / 128) & on;
+    let alarm = (flags / HH) & on;
+    let unacked = (flags / HH_UNACKED) & on;
     let row = met & on;
     let acknowledges = unacked & acks;
-    let returns = alarm & (frees & (row ^ 37449));
-    let activates = (row & ready) & (alarm ^ 37449);
+    let returns = alarm & (frees & (row ^ SIX));
+    let activates = (row & ready) & (alarm ^ SIX);
     let alarm_after = activates | (alarm ^ returns);
-    let held = (activates ^ 37449) & (unacked ^ acknowledges);
+    let held = (activates ^ SIX) & (unacked ^ acknowledges);
     let unacked_after = (activates & every(required)) | held;
     Cells {
         kept: threes(alarm_after, unacked_after, row),
@@ -47,8 +51,8 @@ pub fn decide(
 
 // Three words, the bits of each condition side by side.
 fn threes(a: u32, b: u32, c: u32) -> u32
-    requires { ⌜ (a ≤ 37449) × (b ≤ 37449) × (c ≤ 37449) ⌝ }
-    ensures { λ r. ⌜ (r ≡ a + 2 * b + 4 * c) × (r < 262144) ⌝ }
+    requires { ⌜ (a ≤ sixBits) × (b ≤ sixBits) × (c ≤ sixBits) ⌝ }
+    ensures { λ r. ⌜ (r ≡ a + 2 * b + 4 * c) × (r < sixRange) ⌝ }
 {
     a + 2 * b + 4 * c
 }

@@ -6,6 +6,7 @@ use Prim.Native.Nat.{ℕ, _+_, _^_, _≤_, _<_}
 use lib.ListN.{getD, length}
 use Rattle.wire.specs.Internal.Words.{wordOf}
 use Rattle.wire.proofs.WordLaws.{word-lt}
+use Rattle.wire.specs.Internal.Places.{wordBits}
 use native.Mathlib.Omega.{arith}
 use native.Mathlib.Nat.{add-zero, pow-le-pow-right}
 use lib.Seq.{sets}
@@ -86,8 +87,8 @@ put-back ws at s h m =
     from-zero k = omega arith
 
 -- the flags of a step
-pub flags-small : (bs : List Bool) → length bs ≤ 24 → wordOf bs < 4294967296
+pub flags-small : (bs : List Bool) → length bs ≤ wordBits → wordOf bs < 4294967296
 flags-small bs h =
-    let m : 2 ^ length bs ≤ 2 ^ 24 = pow-le-pow-right (omega arith) h in
-    let k : 2 ^ 24 ≤ 4294967296 = omega arith in
+    let m : 2 ^ length bs ≤ 2 ^ wordBits = pow-le-pow-right (omega arith) h in
+    let k : 2 ^ wordBits ≤ 4294967296 = omega arith in
     omega (arith, word-lt bs, m, k)

@@ -2,6 +2,7 @@
 use mathlib.Core.Path.{_≡_, fun-ext}
 use Prim.Native.Nat.{ℕ}
 use Rattle.wire.proofs.WordLaws.{bit-word}
+use Rattle.wire.specs.Internal.Places.{conditionBit}
 use Rattle.state.specs.Internal.State.{State}
 use Rattle.state.specs.Internal.Held.{DigitalHeld, lookDigital, digitalFlags, hideDigital, Six, HH, H, L, LL, ROCPos, ROCNeg, Side, High, Low, AnalogHeld}
 use Rattle.state.specs.Internal.Held.{runOf, cellOf, Patterns, lookAnalog, analogFlags, hideAnalog}
@@ -12,9 +13,9 @@ look-digital s d =
       bit-word (digitalFlags d) 0,
       bit-word (digitalFlags d) 1,
       bit-word (digitalFlags d) 2,
-      bit-word (digitalFlags d) 6,
-      bit-word (digitalFlags d) 7,
-      bit-word (digitalFlags d) 8,
+      bit-word (digitalFlags d) (conditionBit 0 0),
+      bit-word (digitalFlags d) (conditionBit 0 1),
+      bit-word (digitalFlags d) (conditionBit 0 2),
     )
 
 run-back : {X : Type 0} (a : AnalogHeld X) (p q : ℕ) (s : Side) → runOf (hideAnalog a p q) s ≡ a .run s
@@ -22,12 +23,12 @@ run-back a p q High = rw (bit-word (analogFlags a) 4)
 run-back a p q Low = rw (bit-word (analogFlags a) 5)
 
 cell-back : {X : Type 0} (a : AnalogHeld X) (p q : ℕ) (c : Six) → cellOf (hideAnalog a p q) c ≡ a .cell c
-cell-back a p q HH = rw (bit-word (analogFlags a) 6, bit-word (analogFlags a) 7, bit-word (analogFlags a) 8)
-cell-back a p q H = rw (bit-word (analogFlags a) 9, bit-word (analogFlags a) 10, bit-word (analogFlags a) 11)
-cell-back a p q L = rw (bit-word (analogFlags a) 12, bit-word (analogFlags a) 13, bit-word (analogFlags a) 14)
-cell-back a p q LL = rw (bit-word (analogFlags a) 15, bit-word (analogFlags a) 16, bit-word (analogFlags a) 17)
-cell-back a p q ROCPos = rw (bit-word (analogFlags a) 18, bit-word (analogFlags a) 19, bit-word (analogFlags a) 20)
-cell-back a p q ROCNeg = rw (bit-word (analogFlags a) 21, bit-word (analogFlags a) 22, bit-word (analogFlags a) 23)
+cell-back a p q HH = rw (bit-word (analogFlags a) (conditionBit 0 0), bit-word (analogFlags a) (conditionBit 0 1), bit-word (analogFlags a) (conditionBit 0 2))
+cell-back a p q H = rw (bit-word (analogFlags a) (conditionBit 1 0), bit-word (analogFlags a) (conditionBit 1 1), bit-word (analogFlags a) (conditionBit 1 2))
+cell-back a p q L = rw (bit-word (analogFlags a) (conditionBit 2 0), bit-word (analogFlags a) (conditionBit 2 1), bit-word (analogFlags a) (conditionBit 2 2))
+cell-back a p q LL = rw (bit-word (analogFlags a) (conditionBit 3 0), bit-word (analogFlags a) (conditionBit 3 1), bit-word (analogFlags a) (conditionBit 3 2))
+cell-back a p q ROCPos = rw (bit-word (analogFlags a) (conditionBit 4 0), bit-word (analogFlags a) (conditionBit 4 1), bit-word (analogFlags a) (conditionBit 4 2))
+cell-back a p q ROCNeg = rw (bit-word (analogFlags a) (conditionBit 5 0), bit-word (analogFlags a) (conditionBit 5 1), bit-word (analogFlags a) (conditionBit 5 2))
 
 pub look-packed : {X : Type 0} (v : Patterns X) (a : AnalogHeld X) (p q : ℕ) → v .value p ≡ a .sample .value → v .value q ≡ a .sample .rate
     → lookAnalog v (hideAnalog a p q) ≡ a

@@ -10,6 +10,7 @@ use lib.Seq.{sets}
 use Rattle.settings.specs.Internal.Reals.{realAnalog}
 use Rattle.wire.specs.Bits.{bit}
 use Rattle.wire.specs.Number.{number}
+use Rattle.wire.specs.Internal.Places.{wordBits}
 use Rattle.settings.specs.Alarm.{formAt}
 use Rattle.settings.specs.Numbers.{reals}
 use Rattle.settings.specs.declared.types.Alarm.{Alarm}
@@ -85,10 +86,10 @@ module _ (number : ℕ) (a : Alarm) (s after : State) (x : Reading) (word time :
   pub digital-log : alarmEvents number a after (digitalStep a s x word time .events) time
       ≡ eventsFrom number (a .kind) (bit (after .flags) 1) time 0 (digitalEvents a x word time (lookDigital s))
   unfolding digitalStep
-  digital-log = events-bits number (a .kind) (bit (after .flags) 1) time 24 0 (digitalEvents a x word time (lookDigital s)) (omega arith)
+  digital-log = events-bits number (a .kind) (bit (after .flags) 1) time wordBits 0 (digitalEvents a x word time (lookDigital s)) (omega arith)
 
   pub analog-log : alarmEvents number a after (analogStep reals realPatterns (realAnalog a) s x word time .events) time
       ≡ eventsFrom number (a .kind) (bit (after .flags) 1) time 0 (analogEvents reals (realAnalog a) x word time (lookAnalog realPatterns s))
   unfolding analogStep
   analog-log =
-      events-bits number (a .kind) (bit (after .flags) 1) time 24 0 (analogEvents reals (realAnalog a) x word time (lookAnalog realPatterns s)) (omega arith)
+      events-bits number (a .kind) (bit (after .flags) 1) time wordBits 0 (analogEvents reals (realAnalog a) x word time (lookAnalog realPatterns s)) (omega arith)

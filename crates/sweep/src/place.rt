@@ -22,6 +22,7 @@ use settings::types::Form;
 use settings::types::Reading;
 use state::offsets::STARTS;
 use wire::number::get_u32;
+use wire::places::SUPPRESSED;
 use wire::real::get_real;
 
 // Steps the alarm with its part of the record, which begins at `at`, and answers its event word.
@@ -96,7 +97,7 @@ fn log_place(
         settings,
         from,
         form,
-        flags / 2 % 2 == 1,
+        flags / SUPPRESSED % 2 == 1,
         time,
         events,
     )

@@ -2,6 +2,7 @@
 use Prim.Native.Nat.{ℕ, _-_, min}
 use mathlib.Core.List.{List, [], _∷_}
 use mathlib.Core.Bool.{Bool, false, not, _&&_, cond}
+use Rattle.wire.specs.Internal.Places.{freeEvents}
 use Rattle.settings.specs.Condition as Condition
 use Rattle.settings.specs.Condition.{Condition, In}
 use Rattle.settings.specs.Numbers.{Numbers, AnalogOf}
@@ -53,10 +54,10 @@ abbrev pub levelOf : Side → Condition
 levelOf High = Condition.HH
 levelOf Low = Condition.L
 
--- kinds 1 to 5 as event bits, by what was disabled and suppressed and what is, and a count reset; then a free bit
+-- kinds 1 to 5 as event bits, by what was disabled and suppressed and what is, and a count reset; then free bits
 abbrev pub changes : Bool → Bool → Bool → Bool → Bool → List Bool
 changes wasDisabled wasSuppressed disabled suppressed reset =
-    (disabled && not wasDisabled) ∷ (not disabled && wasDisabled) ∷ (suppressed && not wasSuppressed) ∷ (not suppressed && wasSuppressed) ∷ reset ∷ false ∷ []
+    (disabled && not wasDisabled) ∷ (not disabled && wasDisabled) ∷ (suppressed && not wasSuppressed) ∷ (not suppressed && wasSuppressed) ∷ reset ∷ freeEvents
 
 abbrev pub wholeBits : Scan → List Scan → List Bool
 wholeBits s past = changes (disabledIn past) (suppressedIn past) (disabledIn (s ∷ past)) (suppressedIn (s ∷ past)) (countReset s past)

@@ -1,7 +1,8 @@
 -- The modes of an alarm: enabled or disabled, suppressed, InFaulted; and the events of the whole alarm.
 use Prim.Native.Nat.{ℕ}
-use mathlib.Core.Bool.{Bool, false, not, _&&_, _||_}
-use mathlib.Core.List.{List, [], _∷_}
+use mathlib.Core.Bool.{Bool, not, _&&_, _||_}
+use mathlib.Core.List.{List, _∷_}
+use Rattle.wire.specs.Internal.Places.{freeEvents}
 use Rattle.condition.specs.Command.{enables, disables, suppresses, unsuppresses, countResets, faults}
 
 -- enable if any enable bit, else disable if any disable bit
@@ -12,12 +13,12 @@ disabledAfter word disabled = not (enables word) && (disables word || disabled)
 abbrev pub suppressedAfter : ℕ → Bool → Bool
 suppressedAfter word suppressed = not (unsuppresses word) && (suppresses word || suppressed)
 
--- events of the whole alarm: 1 disabled, 2 enabled, 3 suppressed, 4 unsuppressed only on a change, 5 on every count reset; then a free bit
+-- events of the whole alarm: 1 disabled, 2 enabled, 3 suppressed, 4 unsuppressed only on a change, 5 on every count reset; then free bits
 abbrev pub wholeEvents : Bool → Bool → ℕ → ℕ → List Bool
 wholeEvents disabled suppressed word previous =
     (disabledAfter word disabled && not disabled) ∷ (not (disabledAfter word disabled) && disabled)
     ∷ (suppressedAfter word suppressed && not suppressed) ∷ (not (suppressedAfter word suppressed) && suppressed)
-    ∷ countResets word previous ∷ false ∷ []
+    ∷ countResets word previous ∷ freeEvents
 
 -- disabled, suppressed and InFaulted after the scan, then the events of the whole alarm
 unfoldable pub modeBits : Bool → Bool → ℕ → ℕ → List Bool

@@ -1,10 +1,11 @@
 -- One scan of a digital alarm, in document 01's order.
-use Prim.Native.Nat.{ℕ, _-_}
+use Prim.Native.Nat.{ℕ, _+_, _*_, _-_}
 use mathlib.Core.Bool.{Bool, not, _&&_, cond}
 use mathlib.Core.List.{List, [], _∷_, _++_}
 use lib.Dec.{leb}
 use Rattle.wire.specs.Bits.{bit}
 use Rattle.wire.specs.Internal.Words.{wordOf}
+use Rattle.wire.specs.Internal.Places.{conditionUnit}
 use Rattle.settings.specs.declared.types.Alarm.{Alarm}
 use Rattle.settings.specs.declared.types.Kind.the-variants.{Digital}
 use Rattle.settings.specs.declared.types.Reading.{Reading}
@@ -71,3 +72,7 @@ digitalStep a s x word time =
       state = hideDigital s (digitalAfter a x word time (lookDigital s));
       events = wordOf (digitalEvents a x word time (lookDigital s));
     }
+
+-- flags that say nothing but whether the condition is in alarm, in a row then, and unacknowledged, 0 or 1
+abbrev pub restFlags : Bool → ℕ → ℕ
+restFlags met unacked = cond met (5 * conditionUnit) 0 + 2 * conditionUnit * unacked

@@ -4,23 +4,25 @@ use mathlib.Core.Bool.{Bool, cond}
 use mathlib.Core.List.{List, [], _∷_}
 use lib.Dec.{ltb}
 use lib.ListN.{getD}
+use Rattle.wire.specs.Internal.Places.{firstCondition}
 use Rattle.settings.specs.declared.types.Kind.{Kind}
 use Rattle.settings.specs.declared.types.Kind.the-variants.{Digital, Analog}
 use Rattle.settings.specs.Severity.{acting}
 use Rattle.event.specs.Event.{Event}
 
--- bits 0 to 4 are kinds 1 to 5; from bit 6 on, three to a condition, kinds 6, 7, 8
+-- bits 0 to 4 are kinds 1 to 5, the free ones behind them are never set, so that what is said of these does not matter; then come, three
+-- to a condition, kinds 6, 7, 8
 abbrev pub kindAt : ℕ → ℕ
-kindAt k = cond (ltb k 6) (k + 1) (6 + (k - 6) % 3)
+kindAt k = cond (ltb k firstCondition) (k + 1) (6 + (k - firstCondition) % 3)
 
--- the condition of a bit from 6 on
+-- the condition of a bit from the first condition on
 abbrev pub ownCondition : Kind → ℕ → ℕ
 ownCondition (Digital severity) k = 0
-ownCondition (Analog g s period) k = 1 + (k - 6) / 3
+ownCondition (Analog g s period) k = 1 + (k - firstCondition) / 3
 
 -- the condition of a bit
 abbrev pub conditionAt : Kind → ℕ → ℕ
-conditionAt kind k = cond (ltb k 6) 7 (ownCondition kind k)
+conditionAt kind k = cond (ltb k firstCondition) 7 (ownCondition kind k)
 
 -- the stored severity of a condition
 abbrev pub storedSeverity : Kind → ℕ → ℕ

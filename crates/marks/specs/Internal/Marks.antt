@@ -6,6 +6,7 @@ use mathlib.Core.List.{List, [], _∷_}
 use lib.ListN.{getD, set}
 use lib.Seq.{sets}
 use Rattle.wire.specs.Bits.{bit}
+use Rattle.wire.specs.Internal.Places.{resetEvent, conditionBit}
 use Rattle.condition.specs.Internal.Mark.{Marks, Turn, marksAfter, timeStampAfter}
 use Rattle.settings.specs.Alarm.{blank, ackRequired}
 use Rattle.settings.specs.declared.types.Alarm.{Alarm}
@@ -25,10 +26,10 @@ markCondition t at xs = sets xs at (marksWords (marksAfter t (marksAt xs at)))
 abbrev pub turnAt : Bool → List ℕ → ℕ → ℕ → ℕ → Turn
 turnAt required starts word time c =
     record {
-      reset = bit word 4;
-      acknowledged = bit word (6 + 3 * c);
-      returned = bit word (7 + 3 * c);
-      activated = bit word (8 + 3 * c);
+      reset = bit word resetEvent;
+      acknowledged = bit word (conditionBit c 0);
+      returned = bit word (conditionBit c 1);
+      activated = bit word (conditionBit c 2);
       required = required;
       start = getD starts c 0;
       time = time;
@@ -61,7 +62,7 @@ markConditions required starts word time base (suc n) xs =
 -- an alarm's 25 words at an offset: the count reset stamp, then the conditions
 unfoldable pub markAlarm : Bool → List ℕ → ℕ → ℕ → ℕ → List ℕ → List ℕ
 markAlarm required starts word time at xs =
-    markConditions required starts word time (at + 1) 6 (set xs at (timeStampAfter (bit word 4) time (getD xs at 0)))
+    markConditions required starts word time (at + 1) 6 (set xs at (timeStampAfter (bit word resetEvent) time (getD xs at 0)))
 
 -- the first n alarms, from the starts of their conditions' rows after the scan and their event words
 unfoldable pub markAlarms : List Alarm → (ℕ → List ℕ) → List ℕ → ℕ → ℕ → List ℕ → List ℕ

@@ -1,8 +1,9 @@
 -- What a report says of the conditions of an alarm.
-use Prim.Native.Nat.{ℕ, _+_, _/_}
+use Prim.Native.Nat.{ℕ, _+_}
 use mathlib.Core.Bool.{not}
 use mathlib.Core.List.{List, [], _∷_}
 use Rattle.wire.specs.Bits.{bit}
+use Rattle.wire.specs.Internal.Places.{fromCondition}
 use Rattle.settings.specs.declared.types.Kind.{Kind}
 use Rattle.settings.specs.declared.types.Kind.the-variants.{Digital, Analog}
 use Rattle.marks.specs.Internal.Marks.{marksAt}
@@ -22,15 +23,16 @@ statusAt marks at digit =
       returntime = marksAt marks at .return;
     }
 
--- the one condition of a digital alarm; an alarm's words begin with its count reset stamp, its flags with six of the whole alarm
+-- the one condition of a digital alarm; an alarm's words begin with its count reset stamp
 unfoldable pub digitalStatuses : List ℕ → ℕ → ℕ → List Status
-digitalStatuses marks at flags = statusAt marks (at + 1) (flags / 64) ∷ noStatus ∷ noStatus ∷ noStatus ∷ noStatus ∷ noStatus ∷ []
+digitalStatuses marks at flags = statusAt marks (at + 1) (fromCondition 0 flags) ∷ noStatus ∷ noStatus ∷ noStatus ∷ noStatus ∷ noStatus ∷ []
 
 -- HH, H, L, LL, ROCPos, ROCNeg of an analog alarm
 unfoldable pub analogStatuses : List ℕ → ℕ → ℕ → List Status
 analogStatuses marks at flags =
-    statusAt marks (at + 1) (flags / 64) ∷ statusAt marks (at + 5) (flags / 512) ∷ statusAt marks (at + 9) (flags / 4096)
-    ∷ statusAt marks (at + 13) (flags / 32768) ∷ statusAt marks (at + 17) (flags / 262144) ∷ statusAt marks (at + 21) (flags / 2097152) ∷ []
+    statusAt marks (at + 1) (fromCondition 0 flags) ∷ statusAt marks (at + 5) (fromCondition 1 flags) ∷ statusAt marks (at + 9) (fromCondition 2 flags)
+    ∷ statusAt marks (at + 13) (fromCondition 3 flags) ∷ statusAt marks (at + 17) (fromCondition 4 flags)
+    ∷ statusAt marks (at + 21) (fromCondition 5 flags) ∷ []
 
 abbrev pub statusesOf : Kind → List ℕ → ℕ → ℕ → List Status
 statusesOf (Digital severity) marks at flags = digitalStatuses marks at flags

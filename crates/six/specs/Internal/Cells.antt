@@ -5,15 +5,16 @@ use mathlib.Core.List.{List, _++_}
 use lib.ListN.{take, drop}
 use Rattle.wire.specs.Bits.{bit}
 use Rattle.wire.specs.Internal.Words.{wordOf}
+use Rattle.wire.specs.Internal.Places.{conditionBit}
 use Rattle.condition.specs.Internal.Outcome.{outcomeBits}
 use Rattle.six.specs.declared.decide.Cells.{Cells}
 
--- the outcome of the condition at place k, whose bits in the flags begin at 6 + 3 k
+-- the outcome of the condition at place k, from its bits in the flags
 abbrev pub cell : ℕ → Bool → ℕ → ℕ → ℕ → ℕ → Bool → ℕ → List Bool
 cell flags enabled met frees ready acks required k =
     outcomeBits
     (record { enabled = enabled; met = bit met (3 * k); frees = bit frees (3 * k); ready = bit ready (3 * k); ack = bit acks (3 * k); required = required })
-    (bit flags (6 + 3 * k)) (bit flags (7 + 3 * k))
+    (bit flags (conditionBit k 0)) (bit flags (conditionBit k 1))
 
 -- of six outcomes, what is kept, and the events
 abbrev pub six : (List Bool → List Bool) → (ℕ → List Bool) → List Bool

@@ -4,6 +4,7 @@ use mathlib.Core.Bool.{Bool, false}
 use mathlib.Core.List.{List, [], _∷_}
 use Rattle.wire.specs.Bits.{bit}
 use Rattle.wire.specs.Internal.Words.{wordOf}
+use Rattle.wire.specs.Internal.Places.{disabledFlag, suppressedFlag, faultedFlag, sampledFlag, highFlag, lowFlag, freeFlags, conditionBit}
 use lib.Ieee.{Float, binary32, ofBits, toBits}
 use Rattle.settings.specs.Condition as Condition
 use Rattle.level.specs.Internal.Sample.{Sample}
@@ -21,6 +22,11 @@ pub record Run : Type 0 where
   pub on : Bool
   pub start : ℕ
 
+-- the condition at a place, from its bits and its start
+abbrev pub cellAt : State → ℕ → ℕ → Cell
+cellAt s c start =
+    record { alarm = bit (s .flags) (conditionBit c 0); unacked = bit (s .flags) (conditionBit c 1); row = bit (s .flags) (conditionBit c 2); start = start }
+
 -- ---- a digital alarm
 
 pub record DigitalHeld : Type 0 where
@@ -33,16 +39,16 @@ pub record DigitalHeld : Type 0 where
 abbrev pub lookDigital : State → DigitalHeld
 lookDigital s =
     record {
-      disabled = bit (s .flags) 0;
-      suppressed = bit (s .flags) 1;
-      faulted = bit (s .flags) 2;
+      disabled = bit (s .flags) disabledFlag;
+      suppressed = bit (s .flags) suppressedFlag;
+      faulted = bit (s .flags) faultedFlag;
       previous = s .previous;
-      cell = record { alarm = bit (s .flags) 6; unacked = bit (s .flags) 7; row = bit (s .flags) 8; start = s .hh };
+      cell = cellAt s 0 (s .hh);
     }
 
 abbrev pub digitalFlags : DigitalHeld → List Bool
 digitalFlags d =
-    d .disabled ∷ d .suppressed ∷ d .faulted ∷ false ∷ false ∷ false ∷ d .cell .alarm ∷ d .cell .unacked ∷ d .cell .row ∷ []
+    d .disabled ∷ d .suppressed ∷ d .faulted ∷ false ∷ false ∷ false ∷ freeFlags (d .cell .alarm ∷ d .cell .unacked ∷ d .cell .row ∷ [])
 
 -- what a digital alarm does not use stays as it is
 abbrev pub hideDigital : State → DigitalHeld → State
@@ -102,16 +108,16 @@ pub record AnalogHeld (X : Type 0) : Type 0 where
   pub cell : Six → Cell
 
 abbrev pub runOf : State → Side → Run
-runOf s High = record { on = bit (s .flags) 4; start = s .high }
-runOf s Low = record { on = bit (s .flags) 5; start = s .low }
+runOf s High = record { on = bit (s .flags) highFlag; start = s .high }
+runOf s Low = record { on = bit (s .flags) lowFlag; start = s .low }
 
 abbrev pub cellOf : State → Six → Cell
-cellOf s HH = record { alarm = bit (s .flags) 6; unacked = bit (s .flags) 7; row = bit (s .flags) 8; start = s .hh }
-cellOf s H = record { alarm = bit (s .flags) 9; unacked = bit (s .flags) 10; row = bit (s .flags) 11; start = s .h }
-cellOf s L = record { alarm = bit (s .flags) 12; unacked = bit (s .flags) 13; row = bit (s .flags) 14; start = s .l }
-cellOf s LL = record { alarm = bit (s .flags) 15; unacked = bit (s .flags) 16; row = bit (s .flags) 17; start = s .ll }
-cellOf s ROCPos = record { alarm = bit (s .flags) 18; unacked = bit (s .flags) 19; row = bit (s .flags) 20; start = s .rocpos }
-cellOf s ROCNeg = record { alarm = bit (s .flags) 21; unacked = bit (s .flags) 22; row = bit (s .flags) 23; start = s .rocneg }
+cellOf s HH = cellAt s 0 (s .hh)
+cellOf s H = cellAt s 1 (s .h)
+cellOf s L = cellAt s 2 (s .l)
+cellOf s LL = cellAt s 3 (s .ll)
+cellOf s ROCPos = cellAt s 4 (s .rocpos)
+cellOf s ROCNeg = cellAt s 5 (s .rocneg)
 
 -- how the numbers of a form stand in 32 bits
 pub record Patterns (X : Type 0) : Type 0 where
@@ -124,10 +130,10 @@ realPatterns = record { value = ofBits binary32; pattern = toBits binary32 }
 abbrev pub lookAnalog : {X : Type 0} → Patterns X → State → AnalogHeld X
 lookAnalog p s =
     record {
-      disabled = bit (s .flags) 0;
-      suppressed = bit (s .flags) 1;
-      faulted = bit (s .flags) 2;
-      held = bit (s .flags) 3;
+      disabled = bit (s .flags) disabledFlag;
+      suppressed = bit (s .flags) suppressedFlag;
+      faulted = bit (s .flags) faultedFlag;
+      held = bit (s .flags) sampledFlag;
       previous = s .previous;
       sample = record { value = p .value (s .sample); rate = p .value (s .rate); at = s .sampled };
       run = runOf s;
@@ -140,8 +146,9 @@ cellFlags c rest = c .alarm ∷ c .unacked ∷ c .row ∷ rest
 abbrev pub analogFlags : {X : Type 0} → AnalogHeld X → List Bool
 analogFlags a =
     a .disabled ∷ a .suppressed ∷ a .faulted ∷ a .held ∷ a .run High .on ∷ a .run Low .on
-    ∷ cellFlags (a .cell HH)
-    (cellFlags (a .cell H) (cellFlags (a .cell L) (cellFlags (a .cell LL) (cellFlags (a .cell ROCPos) (cellFlags (a .cell ROCNeg) [])))))
+    ∷ freeFlags
+    (cellFlags (a .cell HH)
+    (cellFlags (a .cell H) (cellFlags (a .cell L) (cellFlags (a .cell LL) (cellFlags (a .cell ROCPos) (cellFlags (a .cell ROCNeg) []))))))
 
 -- the packed state with these flags and patterns of sample and rate
 abbrev pub packed : {X : Type 0} → AnalogHeld X → ℕ → ℕ → ℕ → State

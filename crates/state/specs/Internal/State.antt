@@ -4,9 +4,8 @@ use mathlib.Core.List.{List, [], _∷_}
 use lib.ListN.{getD}
 use Rattle.layout.specs.Internal.Words.{lowerOf, upperOf, pairOf}
 
--- Of `flags`: bit 0 disabled, 1 suppressed, 2 InFaulted, 3 a sample is stored, 4 and 5 the runs of the high and the low side go on; then for
--- each condition in order, from bit 6 on, in alarm, unacknowledged, its row of met scans goes on. A digital alarm has one condition, with the
--- start of HH.
+-- Of `flags`: those of the whole alarm (`disabledFlag` to `lowFlag`), free bits, then for each condition in order, from `firstCondition` on,
+-- in alarm, unacknowledged, its row of met scans goes on. A digital alarm has one condition, with the start of HH.
 pub record State : Type 0 where
   pub flags : ℕ
   -- the last accepted command word
@@ -26,8 +25,8 @@ pub record State : Type 0 where
   pub rocpos : ℕ
   pub rocneg : ℕ
 
--- a state after a scan, and the events of the scan: bits 0 to 4 for kinds 1 to 5, then for each condition in order, from bit 6 on,
--- acknowledged, returned, activated
+-- a state after a scan, and the events of the scan: bits 0 to 4 for kinds 1 to 5, free bits, then for each condition in order, from
+-- `firstCondition` on, acknowledged, returned, activated
 pub record Stepped : Type 0 where
   pub state : State
   pub events : ℕ

@@ -6,6 +6,7 @@ use lib.ListN.{length, set}
 use lib.Seq.{sets}
 use Rattle.layout.specs.Internal.Sizes.{marksSize, settingsSize, statesSize}
 use Rattle.wire.specs.Bits.{bit}
+use Rattle.wire.specs.Internal.Places.{suppressedFlag, wordBits}
 use Rattle.settings.specs.Alarm.{ackRequired, formAt}
 use Rattle.settings.specs.declared.types.Alarm.{Alarm}
 use Rattle.settings.specs.declared.types.Form.{Form}
@@ -21,7 +22,7 @@ use Rattle.bank.specs.Lent.{Words}
 
 -- the events of the alarm with a number, from its state after the scan and its event word
 abbrev pub alarmEvents : ℕ → Alarm → State → ℕ → ℕ → List Event
-alarmEvents number a s word time = eventsOf number (a .kind) (bit (s .flags) 1) time 24 0 word
+alarmEvents number a s word time = eventsOf number (a .kind) (bit (s .flags) suppressedFlag) time wordBits 0 word
 
 -- the counts and stamps after it of the alarm at a place, in the words of all
 abbrev pub alarmMarks : ℕ → Alarm → State → ℕ → ℕ → List ℕ → List ℕ

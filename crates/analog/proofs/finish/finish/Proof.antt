@@ -7,6 +7,7 @@ use mathlib.Core.List.{List}
 use Prim.Native.Nat.{ℕ, _+_, _*_, _/_}
 use lib.ListN.{getD, set}
 use Rattle.wire.specs.Internal.Words.{wordOf, spread}
+use Rattle.wire.specs.Internal.Places.{conditionUnit}
 use Rattle.layout.specs.Internal.Words.{pairOf}
 use Rattle.condition.specs.Internal.Outcome.{ackBits}
 use Rattle.six.specs.declared.decide.Cells.{Cells}
@@ -38,7 +39,7 @@ returns c =
     c .before .before .before .before .before .begin-all .ensures ∙ ap (λ (f : ℕ). keepStarts (allBegin f on (a .met)) (a .time) (a .at + 3) ws) low in
     let kept =
     c .before .pair .ensures .0 ∙ ap (λ (f : ℕ). pairOf f (a .word)) (c .before .before .flags-after .ensures ∙ ap (flagsAfter (a .modes) (a .met)) six) in (
-      ap (λ (s : Cells). a .modes / 8 + 64 * s .events) six,
+      ap (λ (s : Cells). a .modes / 8 + conditionUnit * s .events) six,
       ap₂ (λ (l : List ℕ) (v : ℕ). set l (a .at) v) begun kept,
     )
 

@@ -28,7 +28,7 @@ returns c =
 
 returns-2 : tie.Need-returns-2
 unfolding modeBits
-returns-2 c = (word-join (_ ∷ _ ∷ _ ∷ _ ∷ _ ∷ _ ∷ []) _ (c .before .word6 .ensures .0) (c .word3 .ensures .0) ∙ rw div-one, omega arith)
+returns-2 c = (word-join (_ ∷ _ ∷ _ ∷ _ ∷ _ ∷ _ ∷ []) _ (c .before .word6 .ensures .0) (c .word62 .ensures .0) ∙ rw div-one, omega arith)
 
 pub modes-spec : {M : Type 1} → statement M
 modes-spec = tie.close (tie.spec returns (λ c κs. search needs) (λ c κs. search needs) (λ c. search needs) (λ c. search needs) returns-2)

@@ -1,12 +1,12 @@
 -- `event::write::put_condition` meets its contract: without bits nothing is read or written; otherwise three bits of one head. Assumes nothing.
 use borrow.Author.Needs.{needs}
 use mathlib.Core.Path.{sym, ap, _∙_}
-use Prim.Native.Nat.{_+_, _*_}
 use native.Mathlib.Nat.{add-zero}
 use native.Mathlib.Omega.{arith}
 use lib.ListN.{length}
 use lib.Seq.{sets}
 use denote.Ref.{now}
+use Rattle.wire.specs.Internal.Places.{conditionBit}
 use Rattle.layout.specs.Internal.Words.{kindIn}
 use Rattle.event.proofs.Groups.{no-log, condition-records}
 use Rattle.event.proofs.write.put_condition.Statement.{statement}
@@ -15,7 +15,7 @@ use Rattle.event.proofs.write.put_condition.Tie as tie
 returns : tie.Need-returns
 returns c =
     let a = c .before .before .before .args in
-    let e = no-log (a .number) (kindIn (a .form) (now (a .settings)) (a .from)) (a .suppressed) (a .time) (6 + 3 * a .place) (a .word) (c .if1 .taken) in
+    let e = no-log (a .number) (kindIn (a .form) (now (a .settings)) (a .from)) (a .suppressed) (a .time) (conditionBit (a .place) 0) (a .word) (c .if1 .taken) in
     (rw e (sym (add-zero _)), rw e)
 
 put-three-requires : tie.Need-put-three-requires

@@ -10,6 +10,7 @@ use lib.Dec.{ltb}
 use lib.ListN.{length}
 use denote.Ref.{now}
 use Rattle.wire.proofs.Laws.{and-true}
+use Rattle.wire.specs.Internal.Places.{fromCondition}
 use Rattle.marks.specs.Internal.Marks.{markConditions, startsIn}
 use Rattle.marks.proofs.Still.{conditions-end}
 use Rattle.marks.proofs.Turns.{rest-next, start-in, conditions-next}
@@ -23,7 +24,7 @@ abbrev Inv-loop : tie.InvT-loop
 Inv-loop marks₀ base required states from events time reset rest₀ place₀ marks rest place =
     (place ≤ 6)
     × (length marks ≡ length marks₀)
-    × (rest ≡ events / 2 ^ (6 + 3 * place))
+    × (rest ≡ fromCondition place events)
     × (marks ≡ markConditions required (startsIn states from) events time base place marks₀)
 
 abbrev μ-loop : tie.MeasureT-loop

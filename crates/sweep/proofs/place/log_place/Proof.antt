@@ -8,6 +8,7 @@ use native.Mathlib.Nat.{add-zero}
 use lib.ListN.{length, getD}
 use lib.Seq.{sets}
 use Rattle.wire.specs.Bits.{bit}
+use Rattle.wire.specs.Internal.Places.{wordBits}
 use Rattle.settings.specs.Alarm.{ackRequired}
 use Rattle.layout.specs.Internal.Words.{lowerOf, alarmIn}
 use Rattle.layout.specs.Internal.Block.{alarmAt}
@@ -29,8 +30,8 @@ returns c =
     let z : a .events ≡ 0 = c .if1 .taken in
     let alarm = alarmIn (a .form) (now (a .settings)) (alarmAt (a .place)) in
     let state = stateIn (now (a .states)) (stateAt (a .place)) in
-    let none : eventsOf (a .place + 1) (alarm .kind) (bit (state .flags) 1) (a .time) 24 0 (a .events) ≡ [] =
-    rw z (no-events (a .place + 1) (alarm .kind) (bit (state .flags) 1) (a .time) 24 0) in
+    let none : eventsOf (a .place + 1) (alarm .kind) (bit (state .flags) 1) (a .time) wordBits 0 (a .events) ≡ [] =
+    rw z (no-events (a .place + 1) (alarm .kind) (bit (state .flags) 1) (a .time) wordBits 0) in
     let e = ap logBytes none in (
       sym (ap (λ (bs : List ℕ). a .used + length bs) e ∙ add-zero (a .used)),
       (
@@ -53,7 +54,7 @@ returns-2 c =
     let p = c .before .before .put-events .ensures in
     let l = c .before .before .before .before .lower .ensures in
     let alarm = alarmIn (a .form) (now (a .settings)) (alarmAt (a .place)) in
-    let log : ℕ → List ℕ = λ v. logBytes (eventsOf (a .place + 1) (alarm .kind) (bit v 1) (a .time) 24 0 (a .events)) in
+    let log : ℕ → List ℕ = λ v. logBytes (eventsOf (a .place + 1) (alarm .kind) (bit v 1) (a .time) wordBits 0 (a .events)) in
     let required = c .before .before .before .before .before .before .before .before .before .before .required-in .ensures in
     let starts = starts-in (now (a .states)) (stateAt (a .place)) in (
       p .0 ∙ ap (λ (v : ℕ). a .used + length (log v)) l,
