@@ -93,7 +93,7 @@ module _ (image : List ℕ) (b : T (areBytes image)) where
   pub loaded-settings : settingsIn (settingsWords (readOf image .settings)) ≡ readOf image .settings
   loaded-settings =
       let s = settled image Kept each in
-      settings-back (readOf image .settings) (s .long) (omega (arith, s .digital-most, s .analog-most)) (s .read) (s .behind)
+      settings-back (readOf image .settings) (s .long) (omega (arith, s .most)) (s .read) (s .behind)
 
   -- the words of a loaded bank stand for the bank of its image
   pub loaded-bank : bankIn (loadedWords image) ≡ loadOf image .bank

@@ -12,7 +12,9 @@ use Rattle.settings.specs.Internal.Reals.{realAnalog}
 use Rattle.wire.specs.Bits.{bit}
 use Rattle.wire.specs.Number.{number}
 use Rattle.condition.specs.Internal.Mark.{marksAfter, timeStampAfter, noMarks}
-use Rattle.settings.specs.Alarm.{ackRequired, formAt}
+use Rattle.settings.specs.Counts.{inAll, formAt}
+use Rattle.settings.specs.Alarm.{ackRequired}
+use Rattle.settings.specs.declared.counts.Counts.{Counts}
 use Rattle.settings.specs.Internal.Sound.{Sound}
 use Rattle.settings.specs.Numbers.{reals}
 use Rattle.settings.specs.declared.types.Alarm.{Alarm}
@@ -25,6 +27,7 @@ use Rattle.settings.specs.declared.types.Form.{Form}
 use Rattle.settings.specs.declared.types.Form.the-variants.{Digital as DigitalForm, Analog as AnalogForm}
 use Rattle.settings.specs.declared.reply.Reply.the-variants.{Accepted}
 use Rattle.reader.specs.Internal.Sound.{SoundSettings}
+use Rattle.reader.proofs.Sound.{digital-sound, analog-sound}
 use Rattle.state.specs.Internal.Held.{freshState, lookDigital, realPatterns, lookAnalog, runOf, cellOf, Six, HH, H, L, LL, ROCPos, ROCNeg, Side, High, Low}
 use Rattle.state.specs.Internal.Held.{place}
 use Rattle.digital.specs.Internal.Digital.{digitalStep}
@@ -57,9 +60,9 @@ pub record Kept (image : List ℕ) (past : List (List ℕ)) (b : Bank) : Type 0 
   pub time : b .time ≡ lastAccepted past
   pub states-long : length (b .states) ≡ 24
   pub marks-long : length (b .marks) ≡ 900
-  pub digital : (p : ℕ) → p < b .settings .digital
+  pub digital : (p : ℕ) → p < b .settings .counts .digital
       → DigitalView (alarmAt (b .settings) p) (stateAt b p) (b .marks) (25 * p) (scansAt (b .settings) p past)
-  pub analog : (p : ℕ) → b .settings .digital ≤ p → p < b .settings .digital + b .settings .analog
+  pub analog : (p : ℕ) → b .settings .counts .digital ≤ p → p < inAll (b .settings .counts)
       → AnalogView reals realPatterns (realAnalog (alarmAt (b .settings) p)) (stateAt b p) (b .marks) (25 * p) (scansAt (b .settings) p past)
 
 -- ---- a fresh bank
@@ -109,13 +112,13 @@ fresh-kept image s ok =
       marks-long = length-replicate {A = ℕ} 900 0;
       digital = λ p h.
           record {
-            held = ap lookDigital (getD-replicate 24 p freshState freshState (omega (arith, ok .digital-most)));
+            held = ap lookDigital (getD-replicate 24 p freshState freshState (omega (arith, ok .most)));
             marked = no-marks (25 * p + 1);
             stamped = zeros 900 (25 * p);
           };
       analog = λ p l h.
           record {
-            held = ap (lookAnalog realPatterns) (getD-replicate 24 p freshState freshState (omega (arith, ok .digital-most, ok .analog-most))) ∙ fresh-analog;
+            held = ap (lookAnalog realPatterns) (getD-replicate 24 p freshState freshState (omega (arith, ok .most))) ∙ fresh-analog;
             marked = λ c. no-marks (25 * p + 1 + 4 * place c);
             stamped = zeros 900 (25 * p);
           };
@@ -148,8 +151,11 @@ in-record DigitalForm rec at = tt
 in-record AnalogForm rec at = ofBits-fits binary32 (number rec at 4)
 
 module _ (image : List ℕ) (past : List (List ℕ)) (b : Bank) (rec : List ℕ) (v : Kept image past b) (ok : checkOf b rec ≡ Accepted) where
+  abbrev counts : Counts
+  counts = b .settings .counts
+
   abbrev digital : ℕ
-  digital = b .settings .digital
+  digital = counts .digital
 
   abbrev alarm : ℕ → Alarm
   alarm p = alarmAt (b .settings) p
@@ -159,33 +165,33 @@ module _ (image : List ℕ) (past : List (List ℕ)) (b : Bank) (rec : List ℕ)
   seen p = scanAt (b .settings) p rec
 
   most : alarmsOf b ≤ 24
-  most = omega (arith, v .sound .digital-most, v .sound .analog-most)
+  most = omega (arith, v .sound .most)
 
   pub digital-of : (p : ℕ) → p < digital → (severity : ℕ) × (alarm p .kind ≡ Digital severity)
-  digital-of p h = digital-kind (alarm p .kind) (alarm p .flags) (alarm p .duration) (v .sound .digital-sound p h)
+  digital-of p h = digital-kind (alarm p .kind) (alarm p .flags) (alarm p .duration) (digital-sound (b .settings) (v .sound) p h)
 
   pub analog-of : (p : ℕ) → digital ≤ p → p < alarmsOf b
       → (g : Limits) × (severities : Severities) × (period : ℕ) × (alarm p .kind ≡ Analog g severities period)
-  analog-of p l h = analog-kind (alarm p .kind) (alarm p .flags) (alarm p .duration) (v .sound .analog-sound p l h)
+  analog-of p l h = analog-kind (alarm p .kind) (alarm p .flags) (alarm p .duration) (analog-sound (b .settings) (v .sound) p l h)
 
-  parts : (p : ℕ) → p < alarmsOf b → PartRead rec digital p
+  parts : (p : ℕ) → p < alarmsOf b → PartRead rec counts p
   parts p h =
-      all-read rec digital (alarmsOf b) 0 8 (omega arith) (accepted-says digital (b .settings .analog) (b .time) rec ok .2) p (omega arith) (omega arith)
+      all-read rec counts (alarmsOf b) 0 8 (omega arith) (accepted-says counts (b .time) rec ok .2) p (omega arith) (omega arith)
 
   stepped-is : (p : ℕ) → p < alarmsOf b
-      → stepAt rec digital (b .settings .alarms) (b .states) (timeOf rec) p ≡ stepOf (alarm p) (stateAt b p) (seen p .reading) (seen p .word) (seen p .time)
+      → stepAt rec counts (b .settings .alarms) (b .states) (timeOf rec) p ≡ stepOf (alarm p) (stateAt b p) (seen p .reading) (seen p .word) (seen p .time)
   unfolding stepPart
   stepped-is p h = ap (λ (e : Entry). stepEntry e (alarm p) (stateAt b p) (timeOf rec)) (parts p h)
 
   pub digital-stepped : (p : ℕ) → p < digital
-      → stepAt rec digital (b .settings .alarms) (b .states) (timeOf rec) p
+      → stepAt rec counts (b .settings .alarms) (b .states) (timeOf rec) p
       ≡ digitalStep (alarm p) (stateAt b p) (seen p .reading) (seen p .word) (seen p .time)
   unfolding stepKind
   digital-stepped p h =
       stepped-is p (omega arith) ∙ ap (λ (q : Kind). stepKind q (alarm p) (stateAt b p) (seen p .reading) (seen p .word) (seen p .time)) (digital-of p h .1)
 
   pub analog-stepped : (p : ℕ) → digital ≤ p → p < alarmsOf b
-      → stepAt rec digital (b .settings .alarms) (b .states) (timeOf rec) p
+      → stepAt rec counts (b .settings .alarms) (b .states) (timeOf rec) p
       ≡ analogStep reals realPatterns (realAnalog (alarm p)) (stateAt b p) (seen p .reading) (seen p .word) (seen p .time)
   unfolding stepKind
   analog-stepped p l h =
@@ -193,14 +199,14 @@ module _ (image : List ℕ) (past : List (List ℕ)) (b : Bank) (rec : List ℕ)
 
   -- the state after the record, and the event word, of the alarm at a place
   pub state-after : (p : ℕ) → p < alarmsOf b
-      → getD (planFor b rec .states) p freshState ≡ stepAt rec digital (b .settings .alarms) (b .states) (timeOf rec) p .state
+      → getD (planFor b rec .states) p freshState ≡ stepAt rec counts (b .settings .alarms) (b .states) (timeOf rec) p .state
   unfolding planOf
   state-after p h =
-      placed-below (λ q. stepAt rec digital (b .settings .alarms) (b .states) (timeOf rec) q .state) (alarmsOf b) p (b .states) freshState h
+      placed-below (λ q. stepAt rec counts (b .settings .alarms) (b .states) (timeOf rec) q .state) (alarmsOf b) p (b .states) freshState h
       (omega (arith, most, v .states-long))
 
-  pub word-after : (p : ℕ) → p < alarmsOf b → getD (planFor b rec .events) p 0 ≡ stepAt rec digital (b .settings .alarms) (b .states) (timeOf rec) p .events
-  word-after p h = word-at rec digital (b .settings .alarms) (b .states) (timeOf rec) (alarmsOf b) p most h
+  pub word-after : (p : ℕ) → p < alarmsOf b → getD (planFor b rec .events) p 0 ≡ stepAt rec counts (b .settings .alarms) (b .states) (timeOf rec) p .events
+  word-after p h = word-at rec counts (b .settings .alarms) (b .states) (timeOf rec) most p h
 
   -- its words after the record
   abbrev marksNext : List ℕ
@@ -210,7 +216,7 @@ module _ (image : List ℕ) (past : List (List ℕ)) (b : Bank) (rec : List ℕ)
   abbrev starts : ℕ → List ℕ
   starts p = startsOf (getD (planFor b rec .states) p freshState)
 
-  marked-after : (p c : ℕ) → p < alarmsOf b → c < 6 → {r : Stepped} → stepAt rec digital (b .settings .alarms) (b .states) (timeOf rec) p ≡ r
+  marked-after : (p c : ℕ) → p < alarmsOf b → c < 6 → {r : Stepped} → stepAt rec counts (b .settings .alarms) (b .states) (timeOf rec) p ≡ r
       → marksAt marksNext (25 * p + 1 + 4 * c)
       ≡ marksAfter (turnAt (ackRequired (alarm p .kind) (alarm p .flags)) (startsOf (r .state)) (r .events) (timeOf rec) c)
       (marksAt (b .marks) (25 * p + 1 + 4 * c))
@@ -221,7 +227,7 @@ module _ (image : List ℕ) (past : List (List ℕ)) (b : Bank) (rec : List ℕ)
       ∙ (λ i.
       marksAfter (turnAt (ackRequired (alarm p .kind) (alarm p .flags)) (startsOf (s i)) (w i) (timeOf rec) c) (marksAt (b .marks) (25 * p + 1 + 4 * c)))
 
-  stamped-after : (p : ℕ) → p < alarmsOf b → {r : Stepped} → stepAt rec digital (b .settings .alarms) (b .states) (timeOf rec) p ≡ r
+  stamped-after : (p : ℕ) → p < alarmsOf b → {r : Stepped} → stepAt rec counts (b .settings .alarms) (b .states) (timeOf rec) p ≡ r
       → getD marksNext (25 * p) 0 ≡ timeStampAfter (bit (r .events) 4) (timeOf rec) (getD (b .marks) (25 * p) 0)
   stamped-after p h {r} e =
       reset-read (b .settings .alarms) starts (planFor b rec .events) (timeOf rec) (alarmsOf b) p (b .marks) h (omega (arith, most, v .marks-long))
@@ -246,7 +252,7 @@ module _ (image : List ℕ) (past : List (List ℕ)) (b : Bank) (rec : List ℕ)
       let e = analog-stepped p l h in
       let a = realAnalog (alarm p) in
       let x = seen p in
-      let read = look-analog a (stateAt b p) (x .reading) (x .word) (x .time) (in-record (formAt digital p) rec (offsetOf digital p)) in
+      let read = look-analog a (stateAt b p) (x .reading) (x .word) (x .time) (in-record (formAt counts p) rec (offsetOf counts p)) in
       subst (λ (s : State). AnalogView reals realPatterns a s marksNext (25 * p) (scansAt (b .settings) p (rec ∷ past)))
       (sym (state-after p h ∙ ap (λ (t : Stepped). t .state) e))
       (analog-view reals realPatterns a (stateAt b p) x read (b .marks) marksNext (25 * p) (scansAt (b .settings) p past) (v .analog p l h)
@@ -259,7 +265,7 @@ module _ (image : List ℕ) (past : List (List ℕ)) (b : Bank) (rec : List ℕ)
       record {
         sound = v .sound;
         time = refl;
-        states-long = length-placed (λ q. stepAt rec digital (b .settings .alarms) (b .states) (timeOf rec) q .state) (alarmsOf b) (b .states) ∙ v .states-long;
+        states-long = length-placed (λ q. stepAt rec counts (b .settings .alarms) (b .states) (timeOf rec) q .state) (alarmsOf b) (b .states) ∙ v .states-long;
         marks-long = marks-length (b .settings .alarms) starts (planFor b rec .events) (timeOf rec) (alarmsOf b) (b .marks) ∙ v .marks-long;
         digital = digital-next;
         analog = analog-next;

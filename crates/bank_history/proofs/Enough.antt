@@ -2,7 +2,7 @@
 use mathlib.Core.Path.{_≡_, refl, sym, ap, subst, _∙_}
 use mathlib.Core.Bool.{Bool, true, false}
 use mathlib.Core.List.{List, [], _∷_}
-use Prim.Native.Nat.{ℕ, zero, suc, _+_, _-_, _*_, _/_, _%_, _≤_, _<_, min}
+use Prim.Native.Nat.{ℕ, zero, suc, _+_, _*_, _/_, _%_, _≤_, _<_}
 use native.Mathlib.Omega.{arith}
 use borrow.Author.Tests.{le-ltb, ltb-true, ltb-false}
 use native.Mathlib.Nat.{le-refl}
@@ -25,11 +25,14 @@ use Rattle.settings.specs.declared.types.Reading.{Reading}
 use Rattle.digital.proofs.Laws.{digital-most}
 use Rattle.analog.proofs.Laws.{analog-most}
 use Rattle.scan_record.specs.Part.{timeOf, offsetOf}
-use Rattle.settings.specs.Alarm.{formAt}
+use Rattle.settings.specs.Counts.{sumOf, inFront, formAt}
+use Rattle.settings.specs.declared.counts.Counts.{Counts}
+use Rattle.reader.proofs.Sound.{digital-sound}
 use Rattle.scan_record.specs.Entry.{entryAt}
 use Rattle.scan_record.specs.declared.entry.Entry.{Entry}
 use Rattle.scan_record.specs.declared.entry.Entry.the-variants.{Read, Refused}
 use Rattle.scan.specs.Internal.Plan.{stepEntry, stepPart, stepAt, countOf}
+use Rattle.sweep.specs.Internal.Sweep.{mostEvents}
 use Rattle.scan.proofs.Plans.{word-at, word-small, up-to-count}
 use Rattle.scan.specs.Internal.Scan.{Scanned, checkOf, alarmsOf, planFor, eventsIn, checkedScan, scanOf}
 use Rattle.bank.specs.Internal.Bank.{Bank}
@@ -87,18 +90,21 @@ digital-entry-most (Read x word next) a s time {severity} k =
 digital-entry-most (Refused r) a s time k = omega (arith, no-ones)
 
 module _ (image : List ℕ) (past : List (List ℕ)) (b : Bank) (rec : List ℕ) (v : Kept image past b) where
+  abbrev counts : Counts
+  counts = b .settings .counts
+
   abbrev digital : ℕ
-  digital = b .settings .digital
+  digital = counts .digital
 
   most : alarmsOf b ≤ 24
-  most = omega (arith, v .sound .digital-most, v .sound .analog-most)
+  most = omega (arith, v .sound .most)
 
-  word-of : (p : ℕ) → p < alarmsOf b → getD (planFor b rec .events) p 0 ≡ stepAt rec digital (b .settings .alarms) (b .states) (timeOf rec) p .events
-  word-of p h = word-at rec digital (b .settings .alarms) (b .states) (timeOf rec) (alarmsOf b) p most h
+  word-of : (p : ℕ) → p < alarmsOf b → getD (planFor b rec .events) p 0 ≡ stepAt rec counts (b .settings .alarms) (b .states) (timeOf rec) p .events
+  word-of p h = word-at rec counts (b .settings .alarms) (b .states) (timeOf rec) most p h
 
   -- the part of the record for the alarm at a place
   abbrev entry : ℕ → Entry
-  entry p = entryAt (formAt digital p) rec (offsetOf digital p) (p + 1)
+  entry p = entryAt (formAt counts p) rec (offsetOf counts p) (p + 1)
 
   any-most : (p : ℕ) → p < alarmsOf b → ones (getD (planFor b rec .events) p 0) ≤ 15
   unfolding stepPart
@@ -108,18 +114,18 @@ module _ (image : List ℕ) (past : List (List ℕ)) (b : Bank) (rec : List ℕ)
   unfolding stepPart
   low-most p h =
       let a = alarmAt (b .settings) p in
-      let k = digital-kind (a .kind) (a .flags) (a .duration) (v .sound .digital-sound p h) in
+      let k = digital-kind (a .kind) (a .flags) (a .duration) (digital-sound (b .settings) (v .sound) p h) in
       let l : p < alarmsOf b = omega arith in
       rw (word-of p l) (digital-entry-most (entry p) a (stateAt b p) (timeOf rec) (k .1))
 
   -- the first n alarms
-  count-most : (n : ℕ) → n ≤ alarmsOf b → countOf (planFor b rec .events) n ≤ 5 * min n digital + 15 * (n - digital)
+  count-most : (n : ℕ) → n ≤ alarmsOf b → countOf (planFor b rec .events) n ≤ sumOf mostEvents (inFront counts n)
   unfolding countOf
   count-most zero h = omega arith
   count-most (suc n) h = go (ltb n digital) refl (count-most n (omega arith))
     where
-      go : (t : Bool) → ltb n digital ≡ t → countOf (planFor b rec .events) n ≤ 5 * min n digital + 15 * (n - digital)
-          → countOf (planFor b rec .events) n + ones (getD (planFor b rec .events) n 0) ≤ 5 * min (suc n) digital + 15 * (suc n - digital)
+      go : (t : Bool) → ltb n digital ≡ t → countOf (planFor b rec .events) n ≤ sumOf mostEvents (inFront counts n)
+          → countOf (planFor b rec .events) n + ones (getD (planFor b rec .events) n 0) ≤ sumOf mostEvents (inFront counts (suc n))
       go true e ih = omega (arith, ltb-true n digital e, low-most n (ltb-true n digital e), ih)
       go false e ih = omega (arith, ltb-false n digital e, any-most n (omega arith), ih)
 
@@ -129,8 +135,7 @@ module _ (image : List ℕ) (past : List (List ℕ)) (b : Bank) (rec : List ℕ)
       omega (
         arith,
         up-to-count (b .settings .alarms) (planFor b rec .states) (planFor b rec .events) (timeOf rec) (alarmsOf b)
-            (λ i h. word-small rec digital (b .settings .alarms) (b .states) (timeOf rec) (alarmsOf b) i most h),
+            (λ i h. word-small rec counts (b .settings .alarms) (b .states) (timeOf rec) most i h),
         count-most (alarmsOf b) (le-refl (alarmsOf b)),
-        v .sound .digital-most,
-        v .sound .analog-most,
+        v .sound .most,
       )

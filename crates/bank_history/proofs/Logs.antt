@@ -35,7 +35,7 @@ use Rattle.bank_history.proofs.Banks.{Kept, stateAt, digital-of, analog
 
 module _ (image : List ℕ) (past : List (List ℕ)) (b : Bank) (rec : List ℕ) (v : Kept image past b) (ok : checkOf b rec ≡ Accepted) where
   abbrev digital : ℕ
-  digital = b .settings .digital
+  digital = b .settings .counts .digital
 
   abbrev alarm : ℕ → Alarm
   alarm p = alarmAt (b .settings) p

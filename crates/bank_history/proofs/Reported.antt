@@ -12,6 +12,7 @@ use Rattle.wire.specs.Real.{zeroReal}
 use Rattle.settings.specs.Condition as C
 use Rattle.settings.specs.Condition.{Condition, In, conditionsOf}
 use Rattle.settings.specs.Alarm.{ackRequired}
+use Rattle.reader.proofs.Sound.{digital-sound, analog-sound}
 use Rattle.settings.specs.Numbers.{Numbers, AnalogOf, reals, analogReals}
 use Rattle.settings.specs.declared.reply.Reply.the-variants.{Accepted}
 use Rattle.settings.specs.declared.types.Alarm.{Alarm}
@@ -235,21 +236,21 @@ module _ (s : State) (words : List ℕ) (at time : ℕ) (scans : List Scan) (t :
 pub report-at : (image : List ℕ) (past : List (List ℕ)) (b : Bank) (v : Kept image past b) (p : ℕ) → p < alarmsOf b
     → reportAt b p ≡ alarmReport (alarmAt (b .settings) p) (scansAt (b .settings) p past)
 unfolding reportAt wholeOf
-report-at image past b v p h = go (ltb p (b .settings .digital)) refl
+report-at image past b v p h = go (ltb p (b .settings .counts .digital)) refl
   where
     time : b .time ≡ lastTime (scansAt (b .settings) p past)
     time = v .time ∙ last-of (scanAt (b .settings) p) (λ rec. refl) past
 
-    go : (t : Bool) → ltb p (b .settings .digital) ≡ t
+    go : (t : Bool) → ltb p (b .settings .counts .digital) ≡ t
         → given (stateAt b p) (b .marks) (25 * p) (b .time) (scansAt (b .settings) p past) time (alarmAt (b .settings) p) (alarmAt (b .settings) p .kind)
         ≡ alarmReport (alarmAt (b .settings) p) (scansAt (b .settings) p past)
     go true e =
-        let l = ltb-true p (b .settings .digital) e in
+        let l = ltb-true p (b .settings .counts .digital) e in
         let x = alarmAt (b .settings) p in
-        let k = digital-kind (x .kind) (x .flags) (x .duration) (v .sound .digital-sound p l) in
+        let k = digital-kind (x .kind) (x .flags) (x .duration) (digital-sound (b .settings) (v .sound) p l) in
         digital-report-said (stateAt b p) (b .marks) (25 * p) (b .time) (scansAt (b .settings) p past) time x (k .0) (k .1) (v .digital p l)
     go false e =
-        let l = ltb-false p (b .settings .digital) e in
+        let l = ltb-false p (b .settings .counts .digital) e in
         let x = alarmAt (b .settings) p in
-        let k = analog-kind (x .kind) (x .flags) (x .duration) (v .sound .analog-sound p l h) in
+        let k = analog-kind (x .kind) (x .flags) (x .duration) (analog-sound (b .settings) (v .sound) p l h) in
         analog-report-said (stateAt b p) (b .marks) (25 * p) (b .time) (scansAt (b .settings) p past) time x (k .0) (k .1) (k .2) (k .3) (v .analog p l h)

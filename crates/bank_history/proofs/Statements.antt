@@ -10,6 +10,8 @@ use lib.ListN.{length, getD, take, drop}
 use Rattle.wire.proofs.Laws.{and-true}
 use Rattle.settings.specs.declared.types.Alarm.{Alarm}
 use Rattle.alarm_history.specs.Scans.{Scan}
+use Rattle.settings.specs.Counts.{inAll}
+use Rattle.settings.proofs.Few.{good as counts-good}
 use Rattle.settings.specs.Condition.{Condition, In, conditionsOf}
 use Rattle.settings.specs.Refusals.{refusal}
 use Rattle.settings.specs.declared.types.Kind.{Kind}
@@ -101,31 +103,30 @@ module _ (image : List ℕ) (calls : List Call) (good : Good image) where
   event-bytes-said : (rec out : List ℕ) → eventBuffer b rec out ≡ bufferAfter s past rec out
   event-bytes-said rec out = buffer-said image past b kept rec out ∙ ap (λ (x : Settings). bufferAfter x past rec out) stay
 
-  suffices : (rec : List ℕ) (room : ℕ) → checkRecord (s .digital) (s .analog) (lastAccepted past) rec ≡ Accepted → 3840 ≤ room
+  suffices : (rec : List ℕ) (room : ℕ) → checkRecord (s .counts) (lastAccepted past) rec ≡ Accepted → 3840 ≤ room
       → isAccepted (scanOf b rec room .answer) ≡ true
   suffices rec room ok h =
-      accepted-with-room b rec room (ap₂ (λ (x : Settings) (t : ℕ). checkRecord (x .digital) (x .analog) t rec) stay (kept .time) ∙ ok)
+      accepted-with-room b rec room (ap₂ (λ (x : Settings) (t : ℕ). checkRecord (x .counts) t rec) stay (kept .time) ∙ ok)
       (omega (arith, enough image past b rec kept))
 
   -- ---- a report
 
-  there-is : (n : ℕ) → isThere (b .settings .digital) (b .settings .analog) n ≡ leb 1 n && leb n (s .digital + s .analog)
+  there-is : (n : ℕ) → isThere (b .settings .counts) n ≡ leb 1 n && leb n (inAll (s .counts))
   unfolding isThere
   there-is n =
-      ap₂ (λ (x y : Bool). x && y && (leb 1 n && leb n (b .settings .digital + b .settings .analog))) (le-leb _ _ (kept .sound .digital-most))
-      (le-leb _ _ (kept .sound .analog-most))
-      ∙ ap (λ (x : Settings). leb 1 n && leb n (x .digital + x .analog)) stay
+      ap (λ (x : Bool). x && (leb 1 n && leb n (inAll (b .settings .counts)))) (counts-good (b .settings .counts) (kept .sound .most))
+      ∙ ap (λ (x : Settings). leb 1 n && leb n (inAll (x .counts))) stay
 
   report-said : (n : ℕ) → reportOf b n ≡ reportAfter s past n
   unfolding reportOf
-  report-said n = ap (λ (t : Bool). cond t (reportAt b (n - 1)) noReport) (there-is n) ∙ go (leb 1 n && leb n (s .digital + s .analog)) refl
+  report-said n = ap (λ (t : Bool). cond t (reportAt b (n - 1)) noReport) (there-is n) ∙ go (leb 1 n && leb n (inAll (s .counts))) refl
     where
-      go : (t : Bool) → leb 1 n && leb n (s .digital + s .analog) ≡ t
-          → cond (leb 1 n && leb n (s .digital + s .analog)) (reportAt b (n - 1)) noReport
-          ≡ cond (leb 1 n && leb n (s .digital + s .analog)) (alarmReport (alarmAt s (n - 1)) (scansAt s (n - 1) past)) noReport
+      go : (t : Bool) → leb 1 n && leb n (inAll (s .counts)) ≡ t
+          → cond (leb 1 n && leb n (inAll (s .counts))) (reportAt b (n - 1)) noReport
+          ≡ cond (leb 1 n && leb n (inAll (s .counts))) (alarmReport (alarmAt s (n - 1)) (scansAt s (n - 1) past)) noReport
       go true e =
-          let low = leb-true 1 n (and-true (leb 1 n) (leb n (s .digital + s .analog)) e .0) in
-          let high = leb-true n (s .digital + s .analog) (and-true (leb 1 n) (leb n (s .digital + s .analog)) e .1) in
+          let low = leb-true 1 n (and-true (leb 1 n) (leb n (inAll (s .counts))) e .0) in
+          let high = leb-true n (inAll (s .counts)) (and-true (leb 1 n) (leb n (inAll (s .counts))) e .1) in
           let there : n - 1 < alarmsOf b = rw stay (omega arith) in
           rw e (report-at image past b kept (n - 1) there ∙ ap (λ (x : Settings). alarmReport (alarmAt x (n - 1)) (scansAt x (n - 1) past)) stay)
       go false e = rw e
@@ -168,7 +169,7 @@ module _ (image : List ℕ) (calls : List Call) (good : Good image) where
 
   -- ---- demand 3
 
-  module _ (n i : ℕ) (low : 1 ≤ n) (high : n ≤ s .digital + s .analog) (h : i < length (conditionsOf (alarmAt s (n - 1) .kind))) where
+  module _ (n i : ℕ) (low : 1 ≤ n) (high : n ≤ inAll (s .counts)) (h : i < length (conditionsOf (alarmAt s (n - 1) .kind))) where
     abbrev a : Alarm
     a = alarmAt s (n - 1)
 
@@ -179,7 +180,7 @@ module _ (image : List ℕ) (calls : List Call) (good : Good image) where
     there =
         lent-report n
         ∙ ap (λ (t : Bool). cond t (alarmReport a scans) noReport)
-        (ap₂ (λ (x y : Bool). x && y) (le-leb 1 n low) (le-leb n (s .digital + s .analog) high))
+        (ap₂ (λ (x y : Bool). x && y) (le-leb 1 n low) (le-leb n (inAll (s .counts)) high))
 
     reported : getD (reportIn w n .conditions) i noStatus ≡ statusOf (rulesOf a) scans (getD (conditionsOf (a .kind)) i In)
     reported =

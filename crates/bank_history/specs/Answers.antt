@@ -1,10 +1,11 @@
 -- What a scan answers and which events it writes, from the settings and the records accepted before alone. Records stand latest first.
-use Prim.Native.Nat.{ℕ, zero, suc, _+_, _*_}
+use Prim.Native.Nat.{ℕ, zero, suc, _*_}
 use mathlib.Core.Bool.{Bool, true, false, cond}
 use mathlib.Core.List.{List, [], _∷_, _++_, map}
 use lib.Dec.{ltb}
 use lib.ListN.{length, getD, drop}
-use Rattle.settings.specs.Alarm.{blank, formAt}
+use Rattle.settings.specs.Counts.{inAll, formAt}
+use Rattle.settings.specs.Alarm.{blank}
 use Rattle.settings.specs.Refusals.{refusal}
 use Rattle.settings.specs.declared.types.Alarm.{Alarm}
 use Rattle.settings.specs.declared.types.Form.{Form}
@@ -28,7 +29,7 @@ abbrev pub partAt : Form → List ℕ → ℕ → Scan
 partAt form rec at = record { time = timeOf rec; reading = readingAt form rec at; word = wordAt form rec at }
 
 abbrev pub scanAt : Settings → ℕ → List ℕ → Scan
-scanAt s place rec = partAt (formAt (s .digital) place) rec (offsetOf (s .digital) place)
+scanAt s place rec = partAt (formAt (s .counts) place) rec (offsetOf (s .counts) place)
 
 abbrev pub scansAt : Settings → ℕ → List (List ℕ) → List Scan
 scansAt s place records = map (scanAt s place) records
@@ -39,7 +40,7 @@ scanLog s rec past zero = []
 scanLog s rec past (suc n) = scanLog s rec past n ++ alarmLog (suc n) (alarmAt s n) (scanAt s n rec) (scansAt s n past)
 
 abbrev pub logOf : Settings → List ℕ → List (List ℕ) → List Event
-logOf s rec past = scanLog s rec past (s .digital + s .analog)
+logOf s rec past = scanLog s rec past (inAll (s .counts))
 
 -- the time of the last accepted record
 abbrev pub lastAccepted : List (List ℕ) → ℕ
@@ -53,7 +54,7 @@ afterCheck (RefusedBy r) room events = Refused r
 
 -- the answer to a record, given the length of the lent buffer: the first of 7 to 12, or the number of events
 abbrev pub answerTo : Settings → List (List ℕ) → List ℕ → ℕ → Answer
-answerTo s past rec room = afterCheck (checkRecord (s .digital) (s .analog) (lastAccepted past) rec) room (length (logOf s rec past))
+answerTo s past rec room = afterCheck (checkRecord (s .counts) (lastAccepted past) rec) room (length (logOf s rec past))
 
 -- the buffer after it: the event records in front of what stood behind them; a refusal leaves every byte
 abbrev pub logged : Answer → List ℕ → List ℕ → List ℕ

@@ -1,11 +1,12 @@
 -- What a report says of an alarm, from the settings and the accepted records alone.
-use Prim.Native.Nat.{ℕ, _+_, _-_}
+use Prim.Native.Nat.{ℕ, _-_}
 use mathlib.Core.Bool.{Bool, false, not, _&&_, _||_, cond}
 use mathlib.Core.List.{List, _++_, map, foldr}
 use lib.Dec.{leb}
 use lib.ListN.{take}
 use lib.Ieee.{Float}
 use Rattle.wire.specs.Real.{zeroReal}
+use Rattle.settings.specs.Counts.{inAll}
 use Rattle.settings.specs.Numbers.{reals, analogReals}
 use Rattle.settings.specs.Condition.{Condition, In, HH, L, conditionsOf, severityOf}
 use Rattle.settings.specs.declared.types.Alarm.{Alarm}
@@ -73,5 +74,4 @@ alarmReport a scans =
 
 -- of alarm n, from 1; 14 where there is none
 abbrev pub reportAfter : Settings → List (List ℕ) → ℕ → AlarmReport
-reportAfter s records n =
-    cond (leb 1 n && leb n (s .digital + s .analog)) (alarmReport (alarmAt s (n - 1)) (scansAt s (n - 1) records)) noReport
+reportAfter s records n = cond (leb 1 n && leb n (inAll (s .counts))) (alarmReport (alarmAt s (n - 1)) (scansAt s (n - 1) records)) noReport

@@ -1,11 +1,12 @@
 -- The public statements: what every list of calls gives, from an accepted settings image on, and demand 3.
-use Prim.Native.Nat.{ℕ, _+_, _-_, _≤_, _<_}
+use Prim.Native.Nat.{ℕ, _-_, _≤_, _<_}
 use mathlib.Core.Path.{_≡_}
 use mathlib.Core.Bool.{true, not, cond}
 use mathlib.Core.List.{List, [], _++_}
 use lib.Dec.{T, leb}
 use lib.ListN.{length, getD, drop}
 use lib.Pow.{areBytes}
+use Rattle.settings.specs.Counts.{inAll}
 use Rattle.settings.specs.Condition.{In, conditionsOf}
 use Rattle.settings.specs.Refusals.{refusal}
 use Rattle.settings.specs.declared.types.Settings.{Settings}
@@ -49,7 +50,7 @@ module _ (image : List ℕ) (calls : List Call) where
     pub answer : (rec : List ℕ) (room : ℕ) → answerOf words rec room ≡ answerTo (settings image) records rec room
     pub buffer : (rec out : List ℕ) → bufferOf words rec out ≡ bufferAfter (settings image) records rec out
     -- with 3,840 bytes only 7 to 11 refuse
-    pub suffices : (rec : List ℕ) (room : ℕ) → checkRecord (settings image .digital) (settings image .analog) (lastAccepted records) rec ≡ Accepted → 3840 ≤ room
+    pub suffices : (rec : List ℕ) (room : ℕ) → checkRecord (settings image .counts) (lastAccepted records) rec ≡ Accepted → 3840 ≤ room
         → isAccepted (answerOf words rec room) ≡ true
     -- a report
     pub report : (n : ℕ) → reportIn words n ≡ reportAfter (settings image) records n
@@ -65,7 +66,7 @@ EveryReply = (image : List ℕ) (calls : List Call) → Good image → Replies i
 abbrev pub DemandThree : Type 0
 DemandThree =
     (image : List ℕ) (calls : List Call) (n i : ℕ) → Good image
-    → 1 ≤ n → n ≤ settings image .digital + settings image .analog
+    → 1 ≤ n → n ≤ inAll (settings image .counts)
     → i < length (conditionsOf (alarmAt (settings image) (n - 1) .kind))
     → let a = alarmAt (settings image) (n - 1) in
     let said = getD (reportIn (words image calls) n .conditions) i noStatus in

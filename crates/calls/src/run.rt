@@ -22,14 +22,16 @@ use call_text::spelling::NUMBER;
 use call_text::spelling::ROOM;
 use image::write::Written;
 use image::write::write;
-use layout::sizes::ANALOG_COUNT;
-use layout::sizes::DIGITAL_COUNT;
+use layout::block::counts_in;
 use layout::sizes::MARKS_WORDS;
 use layout::sizes::SETTINGS_WORDS;
 use layout::sizes::STATES_WORDS;
 use report::report::report;
 use scan::answer::Answer;
 use scan::scan::scan;
+use settings::counts::Counts;
+use settings::counts::are_good;
+use settings::counts::in_all;
 use settings::reply::Refusal;
 use settings::reply::Reply;
 use text::input::part;
@@ -38,12 +40,9 @@ use text::output::TEXT_SIZE;
 // Bytes of an event record.
 const EVENT_SIZE: usize = 16;
 
-// How many alarms a bank has.
-fn alarms_in(digital: u64, analog: u64) -> u64 {
-    if u64::MAX - digital < analog {
-        return u64::MAX;
-    }
-    digital + analog
+// How many alarms a bank has. (A load writes no counts that a bank may not have)
+fn alarms_in(counts: Counts) -> usize {
+    if are_good(counts) { in_all(counts) } else { 0 }
 }
 
 // How many bytes so many event records have, of so many that there are.
@@ -85,7 +84,7 @@ pub fn run_settings(
     Said {
         reply,
         form: NUMBER_ONLY,
-        number: alarms_in(settings[DIGITAL_COUNT], settings[ANALOG_COUNT]),
+        number: alarms_in(counts_in(settings)) as u64,
         length: 0,
     }
 }
@@ -122,12 +121,8 @@ fn run_report(
     waiting: usize,
 ) -> usize {
     let found = report(settings, states, marks, alarm);
-    add_report(
-        text,
-        waiting,
-        found,
-        alarm <= settings[DIGITAL_COUNT] as usize,
-    )
+    let counts = counts_in(settings);
+    add_report(text, waiting, found, alarm <= counts.digital)
 }
 
 // Runs a call that is lent a buffer. `bytes` has what it hands on.

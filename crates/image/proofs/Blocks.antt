@@ -6,12 +6,13 @@ use native.Mathlib.Omega.{arith}
 use borrow.Author.Tests.{lt-ltb, le-ltb}
 use lib.ListN.{length, getD, take}
 use lib.Seq.{slice, length-slice, getD-take, getD-drop, ext-getD}
-use Rattle.settings.specs.Alarm.{blank, blanks, formAt}
+use Rattle.settings.specs.Counts.{formAt}
+use Rattle.settings.specs.Alarm.{blank, blanks}
 use Rattle.settings.specs.declared.types.Alarm.{Alarm}
 use Rattle.settings.specs.declared.types.Form.{Form}
 use Rattle.settings.specs.declared.types.Form.the-variants.{Digital as DigitalForm, Analog as AnalogForm}
 use Rattle.layout.specs.Internal.Words.{alarmIn}
-use Rattle.layout.specs.Internal.Block.{alarmAt, alarmOn, digitalIn, analogIn, countIn, settingsIn}
+use Rattle.layout.specs.Internal.Block.{alarmAt, alarmOn, countsIn, countIn, settingsIn}
 use Rattle.layout.proofs.Back.{long-blanks}
 use Rattle.layout.proofs.Laws.{length-placed, placed-below}
 use Rattle.image.specs.Internal.Write.{recordsBytes, sectionBytes, readAs}
@@ -37,7 +38,7 @@ slice-same xs ys first end h k same =
 
 module _ (ws : List ℕ) (most : countIn ws ≤ 24) where
   -- the settings' alarm at a place, of the form that the place has
-  settings-at : (form : Form) (p : ℕ) → p < countIn ws → formAt (digitalIn ws) p ≡ form → getD (readAs form ws) p blank ≡ getD (settingsIn ws .alarms) p blank
+  settings-at : (form : Form) (p : ℕ) → p < countIn ws → formAt (countsIn ws) p ≡ form → getD (readAs form ws) p blank ≡ getD (settingsIn ws .alarms) p blank
   unfolding settingsIn
   settings-at form p h e =
       read-at form ws p (omega arith) ∙ ap (λ (f : Form). alarmIn f ws (alarmAt p)) (sym e)
@@ -47,7 +48,7 @@ module _ (ws : List ℕ) (most : countIn ws ≤ 24) where
   unfolding settingsIn
   long-settings = length-placed (alarmOn ws) (countIn ws) blanks ∙ long-blanks
 
-  section-same : (form : Form) (first n : ℕ) → first + n ≤ countIn ws → ((p : ℕ) → first ≤ p → p < first + n → formAt (digitalIn ws) p ≡ form)
+  section-same : (form : Form) (first n : ℕ) → first + n ≤ countIn ws → ((p : ℕ) → first ≤ p → p < first + n → formAt (countsIn ws) p ≡ form)
       → sectionBytes form first n (readAs form ws) ≡ sectionBytes form first n (settingsIn ws .alarms)
   unfolding sectionBytes
   section-same form first n h forms =
@@ -55,10 +56,10 @@ module _ (ws : List ℕ) (most : countIn ws ≤ 24) where
       (slice-same (readAs form ws) (settingsIn ws .alarms) first (first + n) (omega (arith, length-read form ws)) (omega (arith, long-settings))
       (λ p j k. settings-at form p (omega arith) (forms p j k)))
 
-  pub digital-same : sectionBytes DigitalForm 0 (digitalIn ws) (readAs DigitalForm ws) ≡ digitalSection (settingsIn ws)
+  pub digital-same : sectionBytes DigitalForm 0 (countsIn ws .digital) (readAs DigitalForm ws) ≡ digitalSection (settingsIn ws)
   unfolding settingsIn
-  digital-same = section-same DigitalForm 0 (digitalIn ws) (omega arith) (λ p j k. rw (lt-ltb p (digitalIn ws) (omega arith)))
+  digital-same = section-same DigitalForm 0 (countsIn ws .digital) (omega arith) (λ p j k. rw (lt-ltb p (countsIn ws .digital) (omega arith)))
 
-  pub analog-same : sectionBytes AnalogForm (digitalIn ws) (analogIn ws) (readAs AnalogForm ws) ≡ analogSection (settingsIn ws)
+  pub analog-same : sectionBytes AnalogForm (countsIn ws .digital) (countsIn ws .analog) (readAs AnalogForm ws) ≡ analogSection (settingsIn ws)
   unfolding settingsIn
-  analog-same = section-same AnalogForm (digitalIn ws) (analogIn ws) (omega arith) (λ p j k. rw (le-ltb p (digitalIn ws) j))
+  analog-same = section-same AnalogForm (countsIn ws .digital) (countsIn ws .analog) (omega arith) (λ p j k. rw (le-ltb p (countsIn ws .digital) j))

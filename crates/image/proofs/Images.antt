@@ -3,18 +3,22 @@ use mathlib.Core.Path.{_≡_, refl, sym, ap, _∙_}
 use mathlib.Core.List.{List, [], _∷_, _++_}
 use Prim.Native.Nat.{ℕ, suc, _+_, _*_, _≤_, _<_}
 use native.Mathlib.Nat.{le-trans, mul-suc, mul-le-mul-left, zero-add}
-use mathlib.Core.Bool.{true, _&&_}
+use mathlib.Core.Bool.{true}
 use borrow.Author.Tests.{leb-true}
 use lib.Dec.{leb}
 use native.Mathlib.Numerals.{add-one}
 use native.Mathlib.Omega.{arith}
 use lib.ListN.{length, getD, take, length-append, length-take, length-drop, drop, drop-of-length-le}
 use lib.Seq.{slice, slice-cons, sets, sets-eq}
-use Rattle.wire.proofs.Laws.{length-words, sets-append, and-true, most-true}
+use Rattle.wire.proofs.Laws.{length-words, sets-append, and-true}
+use Rattle.settings.proofs.Few.{few}
 use Rattle.image.specs.Internal.Write.{digitalBytes, analogBytes, severityWords, limitWords, kindBytes, recordBytes, recordsBytes, sectionBytes}
 use Rattle.image.specs.Internal.Write.{imageOf, sizeOfImage, hasRoom}
 use Rattle.settings_record.specs.Record.{sizeOf}
+use Rattle.settings.specs.Counts.{areGood}
 use Rattle.settings.specs.Alarm.{blank}
+use Rattle.settings.specs.Internal.Few.{Few}
+use Rattle.settings.specs.declared.counts.Counts.{Counts}
 use Rattle.settings.specs.declared.types.Alarm.{Alarm}
 use Rattle.settings.specs.declared.types.Settings.{Settings}
 use Rattle.settings.specs.declared.types.Kind.{Kind}
@@ -90,17 +94,15 @@ section-room form first n alarms =
 
 -- ---- the writer's test for room
 
-pub record Room (d a n : ℕ) : Type 0 where
-  pub digital : d ≤ 12
-  pub analog : a ≤ 12
-  pub image : sizeOfImage d a ≤ n
+pub record Room (counts : Counts) (n : ℕ) : Type 0 where
+  pub most : Few counts
+  pub image : sizeOfImage counts ≤ n
 
-pub room : (d a n : ℕ) → hasRoom d a n ≡ true → Room d a n
+pub room : (counts : Counts) (n : ℕ) → hasRoom counts n ≡ true → Room counts n
 unfolding hasRoom
-room d a n e =
-    let size = and-true (leb d 12 && leb a 12) (leb (sizeOfImage d a) n) e in
-    let most = most-true d a 12 12 refl (size .0) in
-    record { digital = most .0; analog = most .1; image = leb-true (sizeOfImage d a) n (size .1) }
+room counts n e =
+    let both = and-true (areGood counts) (leb (sizeOfImage counts) n) e in
+    record { most = few counts refl (both .0); image = leb-true (sizeOfImage counts) n (both .1) }
 
 -- what is written from the start stands in front of the rest
 pub sets-front : (xs out : List ℕ) → length xs ≤ length out → sets out 0 xs ≡ xs ++ drop (length xs) out
@@ -109,22 +111,22 @@ sets-front xs out h = sets-eq xs out 0 (rw zero-add h) ∙ rw zero-add
 -- ---- both sections, written one after the other, are the image in front of the rest
 
 abbrev pub digitalSection : Settings → List ℕ
-digitalSection s = sectionBytes DigitalForm 0 (s .digital) (s .alarms)
+digitalSection s = sectionBytes DigitalForm 0 (s .counts .digital) (s .alarms)
 
 abbrev pub analogSection : Settings → List ℕ
-analogSection s = sectionBytes AnalogForm (s .digital) (s .analog) (s .alarms)
+analogSection s = sectionBytes AnalogForm (s .counts .digital) (s .counts .analog) (s .alarms)
 
 pub image-length : (s : Settings) {n₁ n₂ : ℕ} → n₁ ≡ 0 + length (digitalSection s) → n₂ ≡ n₁ + length (analogSection s) → n₂ ≡ length (imageOf s)
 unfolding imageOf
 image-length s e f = omega (arith, length-append (digitalSection s) (analogSection s))
 
-pub image-front : (s : Settings) (out : List ℕ) {l₁ l₂ : List ℕ} {n : ℕ} → Room (s .digital) (s .analog) (length out)
+pub image-front : (s : Settings) (out : List ℕ) {l₁ l₂ : List ℕ} {n : ℕ} → Room (s .counts) (length out)
     → n ≡ 0 + length (digitalSection s) → l₁ ≡ sets out 0 (digitalSection s) → l₂ ≡ sets l₁ n (analogSection s)
     → l₂ ≡ imageOf s ++ drop (length (imageOf s)) out
 unfolding imageOf
 image-front s out r e f g =
-    let first = section-room DigitalForm 0 (s .digital) (s .alarms) in
-    let second = section-room AnalogForm (s .digital) (s .analog) (s .alarms) in
+    let first = section-room DigitalForm 0 (s .counts .digital) (s .alarms) in
+    let second = section-room AnalogForm (s .counts .digital) (s .counts .analog) (s .alarms) in
     let fits : length (digitalSection s ++ analogSection s) ≤ length out =
     omega (arith, length-append (digitalSection s) (analogSection s), r .image)
     in

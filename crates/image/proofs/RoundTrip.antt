@@ -13,6 +13,7 @@ use lib.Pow.{areBytes}
 use lib.Seq.{slice, slice-empty, slice-cons, take-take, take-set-le, getD-take, getD-set-same, take-all, take-at}
 use Rattle.wire.specs.Number.{part}
 use Rattle.wire.proofs.Laws.{part-suc, part-add}
+use Rattle.settings.proofs.Few.{good}
 use Rattle.settings.specs.Alarm.{blank, blanks}
 use Rattle.reader.specs.Count.{countAt}
 use Rattle.settings_record.specs.Record.{recordAt, sizeOf}
@@ -24,7 +25,6 @@ use Rattle.image.specs.Internal.RoundTrip.{RoundTrip}
 use Rattle.settings.specs.declared.types.Alarm.{Alarm}
 use Rattle.settings.specs.declared.types.Form.{Form}
 use Rattle.settings.specs.declared.types.Form.the-variants.{Digital as DigitalForm, Analog as AnalogForm}
-use Rattle.settings.specs.declared.reply.Refusal.{Refusal}
 use Rattle.reader.specs.declared.count.Count.{Count}
 use Rattle.reader.specs.declared.count.Count.the-variants.{Alarms, Refused as NoCount}
 use Rattle.settings_record.specs.declared.record.Record.{Record}
@@ -109,12 +109,9 @@ walked form image b n (suc k) place at alarms {m} {next} h e =
     rest : Alarm → ℕ → Filled
     rest a past = recordsFrom form image n k (place + 1) past (set alarms place a)
 
-    stop : Refusal → Filled
-    stop r = record { alarms = alarms; section = Refused r }
-
     go : (r : Record) → recordAt form image at ≡ r
         → ((a : Alarm) (past : ℕ) → rest a past .section ≡ Read m next → Walked form image k (place + 1) past (set alarms place a) (rest a past .alarms) next)
-        → onRecord r rest stop .section ≡ Read m next → Walked form image (suc k) place at alarms (onRecord r rest stop .alarms) next
+        → onRecord r alarms rest .section ≡ Read m next → Walked form image (suc k) place at alarms (onRecord r alarms rest .alarms) next
     go (Recorded a past) f ih e = walked-more form image k place at alarms a past next (rest a past .alarms) h (inverse form image b at f) (ih a past e)
     go (NoRecord r) f ih e = let z : _≡_ {A = ℕ} 0 1 = cc in absurd (omega arith)
 
@@ -137,11 +134,8 @@ section-read form image b first at alarms {n} {next} h e = go (countAt image at)
     rest : ℕ → ℕ → Filled
     rest m past = recordsFrom form image m m first past alarms
 
-    stop : Refusal → Filled
-    stop r = record { alarms = alarms; section = Refused r }
-
-    go : (c : Count) → countAt image at ≡ c → onCount c rest stop .section ≡ Read n next
-        → SectionRead form image first at alarms (onCount c rest stop .alarms) n next
+    go : (c : Count) → countAt image at ≡ c → onCount c alarms rest .section ≡ Read n next
+        → SectionRead form image first at alarms (onCount c alarms rest .alarms) n next
     go (Alarms m past) f e =
         let c = count-read image at f in
         let n≡ : n ≡ m = records-count form image m m first past alarms e in
@@ -173,7 +167,7 @@ module _ (image : List ℕ) (b : T (areBytes image)) where
 
   back-sections : (d a next end : ℕ) (alarms : List Alarm) (filled : List Alarm)
       → SectionRead DigitalForm image 0 0 blanks alarms d next → SectionRead AnalogForm image d next alarms filled a end → length image ≤ end
-      → RoundTrip image (record { digital = d; analog = a; alarms = filled })
+      → RoundTrip image (record { counts = record { digital = d; analog = a }; alarms = filled })
   unfolding imageOf sectionBytes blanks
   back-sections d a next end alarms filled x y h =
       record {
@@ -194,7 +188,7 @@ module _ (image : List ℕ) (b : T (areBytes image)) where
       filled = sectionAt AnalogForm image d next alarms
 
       read : ℕ → Loaded
-      read a = record { settings = record { digital = d; analog = a; alarms = filled .alarms }; reply = Accepted }
+      read a = record { settings = record { counts = record { digital = d; analog = a }; alarms = filled .alarms }; reply = Accepted }
 
       done : ℕ → ℕ → Loaded
       done a end = cond (ltb end (length image)) (refusedBy (refusal 6 end)) (read a)
@@ -238,13 +232,11 @@ module _ (image : List ℕ) (b : T (areBytes image)) (e : readOf image .reply �
   round-trip = accepted image b e .back
 
   pub longest : length image ≤ 842
-  longest = let s = sound-settings image in omega (arith, accepted image b e .size, s .digital-most, s .analog-most)
+  longest = let s = sound-settings image in omega (arith, accepted image b e .size, s .most)
 
-  pub room-is : (n : ℕ) → hasRoom (settings .digital) (settings .analog) n ≡ leb (length image) n
+  pub room-is : (n : ℕ) → hasRoom (settings .counts) n ≡ leb (length image) n
   unfolding hasRoom
-  room-is n =
-      let s = sound-settings image in
-      rw (le-leb (settings .digital) 12 (s .digital-most), le-leb (settings .analog) 12 (s .analog-most), ← accepted image b e .size) refl
+  room-is n = rw (good (settings .counts) (sound-settings image .most), ← accepted image b e .size) refl
 
   -- a buffer that is long enough gets the image, and reading its front gives the same settings again
   pub written : (out : List ℕ) → length image ≤ length out

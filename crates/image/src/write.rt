@@ -4,18 +4,19 @@ ghost use Prim.Native.Nat.{_+_, _≤_, _<_};
 ghost use lib.ListN.{length};
 ghost use lib.Seq.{sets, slice};
 ghost use Rattle.layout.specs.Internal.Sizes.{settingsSize};
-ghost use Rattle.settings.specs.Alarm.{allMost};
+ghost use Rattle.settings.specs.Counts.{allMost};
+ghost use Rattle.settings.specs.Internal.Few.{Few};
 ghost use Rattle.wire.specs.Internal.Words.{words};
 ghost use Rattle.settings_record.specs.Record.{wordPlace, sizeOf};
 ghost use Rattle.image.specs.Internal.Write.{severityWords, limitWords, digitalBytes, analogBytes, recordBytes, recordsBytes, sectionBytes, readAs, sizeOfImage, hasRoom, writtenOf, imageBuffer, writeOf, writeBuffer};
 ghost use Rattle.layout.specs.Internal.Block.{settingsIn};
+use layout::block::counts_in;
 use layout::block::is_block;
 use layout::read::alarm_in;
 use layout::sizes::ALARM_WORDS;
-use layout::sizes::ANALOG_COUNT;
-use layout::sizes::DIGITAL_COUNT;
 use layout::sizes::SETTINGS_HEAD;
-use settings::counts::is_bank;
+use settings::counts::Counts;
+use settings::counts::are_good;
 use settings::refusals::IMAGE_TOO_LONG;
 use settings::refusals::NO_BANK;
 use settings::reply::Refusal;
@@ -185,22 +186,22 @@ fn put_section(
     put_records(out, at + 1, form, first, first + count, words)
 }
 
-// The length of the image of settings with so many alarms.
-fn image_size(digital: usize, analog: usize) -> usize
-    requires { ⌜ (digital ≤ 12) × (analog ≤ 12) ⌝ }
-    ensures { λ r. ⌜ r ≡ sizeOfImage digital analog ⌝ }
+// The length of the image of settings with these counts.
+fn image_size(counts: Counts) -> usize
+    requires { ⌜ Few counts ⌝ }
+    ensures { λ r. ⌜ r ≡ sizeOfImage counts ⌝ }
 {
-    COUNTS + DIGITAL_SIZE * digital + ANALOG_SIZE * analog
+    COUNTS + DIGITAL_SIZE * counts.digital + ANALOG_SIZE * counts.analog
 }
 
-// Whether settings with so many alarms have an image of at most `len` bytes.
-fn has_room(digital: usize, analog: usize, len: usize) -> bool
-    ensures { λ r. ⌜ r ≡ hasRoom digital analog len ⌝ }
+// Whether settings with these counts have an image of at most `len` bytes.
+fn has_room(counts: Counts, len: usize) -> bool
+    ensures { λ r. ⌜ r ≡ hasRoom counts len ⌝ }
 {
-    if !is_bank(digital, analog) {
+    if !are_good(counts) {
         return false;
     }
-    image_size(digital, analog) <= len
+    image_size(counts) <= len
 }
 
 // Writes the image of the settings in a block.
@@ -209,16 +210,22 @@ fn write_block(words: &[u64], out: &mut [u8]) -> Written
     ensures { λ r. ⌜ r ≡ writtenOf (settingsIn (now (words .entry))) (length (now (out .entry))) ⌝ }
     ensures { λ _. ⌜ now (out .exit) ≡ imageBuffer (settingsIn (now (words .entry))) (now (out .entry)) ⌝ }
 {
-    let digital = words[DIGITAL_COUNT] as usize;
-    let analog = words[ANALOG_COUNT] as usize;
-    if !has_room(digital, analog, out.len()) {
+    let counts = counts_in(words);
+    if !has_room(counts, out.len()) {
         return Written::Refused(Refusal {
             number: IMAGE_TOO_LONG,
             place: 0,
         });
     }
-    let next = put_section(out, 0, Form::Digital, 0, digital, words);
-    let length = put_section(out, next, Form::Analog, digital, analog, words);
+    let next = put_section(out, 0, Form::Digital, 0, counts.digital, words);
+    let length = put_section(
+        out,
+        next,
+        Form::Analog,
+        counts.digital,
+        counts.analog,
+        words,
+    );
     Written::Length(length)
 }
 

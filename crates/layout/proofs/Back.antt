@@ -12,7 +12,8 @@ use lib.Ieee.{Float, binary32, ofBits, toBits, fits}
 use lib.Ieee.Bits.{ofBits-toBits, toBits-lt}
 use lib.ListN.{length, getD, replicate, length-replicate, getD-replicate, List·getD-append}
 use lib.Seq.{getD-append-add, ext-getD}
-use Rattle.settings.specs.Alarm.{blank, blanks, formAt}
+use Rattle.settings.specs.Counts.{inAll, formAt}
+use Rattle.settings.specs.Alarm.{blank, blanks}
 use Rattle.settings.specs.declared.types.Alarm.{Alarm}
 use Rattle.settings.specs.declared.types.Limits.{Limits}
 use Rattle.settings.specs.declared.types.Severities.{Severities}
@@ -116,7 +117,7 @@ module _ (s : Settings) (long : length (s .alarms) ≡ 24) where
   unfolding settingsWords
   block-word p k h m =
       let e : alarmAt p + k ≡ 4 + (8 * p + k) = omega arith in
-      let head = headWords (s .digital) (s .analog) in
+      let head = headWords (s .counts) in
       ap (λ (i : ℕ). getD ws i 0) e
       ∙ getD-append-add head (alarmsWords (s .alarms) ++ replicate 96 0) (8 * p + k) 0
       ∙ List·getD-append (alarmsWords (s .alarms)) (replicate 96 0) 0 (8 * p + k) (omega (arith, length-alarms (s .alarms)))
@@ -132,18 +133,18 @@ module _ (s : Settings) (long : length (s .alarms) ≡ 24) where
   block-is = rw (eq-eqb (length ws) 292 (length-settings s long))
 
   -- settings whose alarms are kept, and whose other places are blank
-  module _ (most : s .digital + s .analog ≤ 24)
-      (kept : (p : ℕ) → p < s .digital + s .analog → Kept (formAt (s .digital) p) (getD (s .alarms) p blank))
-      (behind : (p : ℕ) → s .digital + s .analog ≤ p → getD (s .alarms) p blank ≡ blank) where
+  module _ (most : inAll (s .counts) ≤ 24)
+      (kept : (p : ℕ) → p < inAll (s .counts) → Kept (formAt (s .counts) p) (getD (s .alarms) p blank))
+      (behind : (p : ℕ) → inAll (s .counts) ≤ p → getD (s .alarms) p blank ≡ blank) where
     alarm-back : (p : ℕ) → p < 24 → getD (placed (alarmOn ws) (countIn ws) blanks) p blank ≡ getD (s .alarms) p blank
     unfolding settingsWords
-    alarm-back p h = go (decLe (s .digital + s .analog) p)
+    alarm-back p h = go (decLe (inAll (s .counts)) p)
       where
-        go : Dec (s .digital + s .analog ≤ p) → getD (placed (alarmOn ws) (countIn ws) blanks) p blank ≡ getD (s .alarms) p blank
+        go : Dec (inAll (s .counts) ≤ p) → getD (placed (alarmOn ws) (countIn ws) blanks) p blank ≡ getD (s .alarms) p blank
         go (yes l) = placed-above (alarmOn ws) (countIn ws) p blanks blank l ∙ blank-at p h ∙ sym (behind p l)
         go (no l) =
             let m = lt-of-not-le l in
-            placed-below (alarmOn ws) (countIn ws) p blanks blank m (omega (arith, long-blanks)) ∙ block-alarm (formAt (s .digital) p) p h ∙ kept p m
+            placed-below (alarmOn ws) (countIn ws) p blanks blank m (omega (arith, long-blanks)) ∙ block-alarm (formAt (s .counts) p) p h ∙ kept p m
 
     alarms-back : placed (alarmOn ws) (countIn ws) blanks ≡ s .alarms
     alarms-back =
@@ -153,4 +154,4 @@ module _ (s : Settings) (long : length (s .alarms) ≡ 24) where
     -- are read back from their block
     pub settings-back : settingsIn ws ≡ s
     unfolding settingsIn settingsWords
-    settings-back = ap (λ (l : List Alarm). record { digital = s .digital; analog = s .analog; alarms = l }) alarms-back
+    settings-back = ap (λ (l : List Alarm). record { counts = s .counts; alarms = l }) alarms-back

@@ -11,7 +11,7 @@ use Rattle.settings.specs.Alarm.{blank}
 use Rattle.settings.specs.declared.types.Alarm.{Alarm}
 use Rattle.settings.specs.declared.types.Settings.{Settings}
 use Rattle.layout.specs.Internal.Words.{formOf, alarmIn, alarmWords}
-use Rattle.layout.specs.Internal.Block.{layoutWord, alarmAt, headWords, alarmsWords, settingsWords, Says}
+use Rattle.layout.specs.Internal.Block.{layoutWord, alarmAt, headWords, alarmsWords, settingsWords, Says, countsIn}
 use Rattle.layout.proofs.Laws.{length-alarm, length-alarms, place-below}
 
 -- ---- zeros
@@ -59,10 +59,10 @@ module _ (alarms : List Alarm) where
 -- ---- the whole block
 
 pub block-whole : (s : Settings) {us vs ws : List ℕ} → length (s .alarms) ≡ 24 → us ≡ replicate 292 0
-    → vs ≡ sets us 0 (headWords (s .digital) (s .analog)) → ws ≡ sets vs 4 (alarmsWords (s .alarms)) → ws ≡ settingsWords s
+    → vs ≡ sets us 0 (headWords (s .counts)) → ws ≡ sets vs 4 (alarmsWords (s .alarms)) → ws ≡ settingsWords s
 unfolding settingsWords
 block-whole s {us} {vs} {ws} n e f g =
-    let head = headWords (s .digital) (s .analog) in
+    let head = headWords (s .counts) in
     let all = head ++ alarmsWords (s .alarms) in
     let m : length all ≡ 196 = omega (arith, length-alarms (s .alarms)) in
     let long : length us ≡ 292 = ap length e ∙ length-replicate {A = ℕ} 292 0 in
@@ -73,6 +73,6 @@ block-whole s {us} {vs} {ws} n e f g =
 
 -- the first words of the block
 pub block-head : (s : Settings) {ws : List ℕ} → ws ≡ settingsWords s
-    → (getD ws 0 0 ≡ layoutWord) × (getD ws 1 0 ≡ s .digital) × (getD ws 2 0 ≡ s .analog)
+    → (getD ws 0 0 ≡ layoutWord) × (countsIn ws ≡ s .counts)
 unfolding settingsWords
-block-head s e = rw e (refl, refl, refl)
+block-head s e = rw e (refl, refl)

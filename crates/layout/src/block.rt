@@ -4,8 +4,8 @@ ghost use Prim.Native.Nat.{_≤_};
 ghost use lib.ListN.{length, getD, replicate};
 ghost use lib.Seq.{sets};
 ghost use Rattle.layout.specs.Internal.Sizes.{settingsSize};
-ghost use Rattle.settings.specs.Alarm.{allMost};
-ghost use Rattle.layout.specs.Internal.Block.{layoutWord, headWords, alarmsWords, settingsWords, Says, isBlock};
+ghost use Rattle.settings.specs.Counts.{allMost};
+ghost use Rattle.layout.specs.Internal.Block.{layoutWord, headWords, alarmsWords, settingsWords, Says, countsIn, isBlock};
 use crate::put::put_alarm;
 use crate::sizes::ALARM_WORDS;
 use crate::sizes::ANALOG_COUNT;
@@ -14,6 +14,7 @@ use crate::sizes::LAYOUT_WORD;
 use crate::sizes::SETTINGS_HEAD;
 use crate::sizes::SETTINGS_WORDS;
 use settings::counts::ALARMS;
+use settings::counts::Counts;
 use settings::types::Alarm;
 use settings::types::Settings;
 
@@ -25,6 +26,17 @@ pub fn is_block(words: &[u64]) -> bool
         words[0] == LAYOUT_WORD
     } else {
         false
+    }
+}
+
+// The counts that a block says.
+pub fn counts_in(words: &[u64]) -> Counts
+    requires { ⌜ 4 ≤ length (now words) ⌝ }
+    ensures { λ r. ⌜ r ≡ countsIn (now (words .entry)) ⌝ }
+{
+    Counts {
+        digital: words[DIGITAL_COUNT] as usize,
+        analog: words[ANALOG_COUNT] as usize,
     }
 }
 
@@ -40,13 +52,13 @@ pub fn clear(words: &mut [u64])
 }
 
 // The layout word, the counts, and 0 where a third count has room.
-fn put_head(words: &mut [u64], digital: usize, analog: usize)
+fn put_head(words: &mut [u64], counts: Counts)
     requires { ⌜ 4 ≤ length (now words) ⌝ }
-    ensures { λ _. ⌜ now (words .exit) ≡ sets (now (words .entry)) 0 (headWords digital analog) ⌝ }
+    ensures { λ _. ⌜ now (words .exit) ≡ sets (now (words .entry)) 0 (headWords counts) ⌝ }
 {
     words[0] = LAYOUT_WORD;
-    words[DIGITAL_COUNT] = digital as u64;
-    words[ANALOG_COUNT] = analog as u64;
+    words[DIGITAL_COUNT] = counts.digital as u64;
+    words[ANALOG_COUNT] = counts.analog as u64;
     words[3] = 0;
 }
 
@@ -69,10 +81,11 @@ pub fn put_settings(words: &mut [u64], settings: Settings)
     requires { ⌜ length (now words) ≡ settingsSize ⌝ }
     ensures { λ _. ⌜ now (words .exit) ≡ settingsWords settings ⌝ }
     ensures { λ _. ⌜ Says (settings .alarms) allMost (now (words .exit)) ⌝ }
-    ensures { λ _. ⌜ (getD (now (words .exit)) 0 0 ≡ layoutWord) × (getD (now (words .exit)) 1 0 ≡ settings .digital) × (getD (now (words .exit)) 2 0 ≡ settings .analog) ⌝ }
+    ensures { λ _. ⌜ (getD (now (words .exit)) 0 0 ≡ layoutWord) × (countsIn (now (words .exit)) ≡ settings .counts) ⌝ }
 {
+    let counts = settings.counts;
     let alarms = settings.alarms;
     clear(words);
-    put_head(words, settings.digital, settings.analog);
+    put_head(words, counts);
     put_alarms(words, alarms);
 }

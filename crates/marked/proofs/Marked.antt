@@ -24,7 +24,7 @@ use Rattle.settings_record.specs.Record.{severitiesAt, limitsAt, fieldsAt, reco
 use Rattle.reader.specs.Section.{recordsFrom, sectionAt}
 use Rattle.reader.specs.Read.{restOf, readOf}
 use Rattle.scan_record.specs.Entry.{entryAt}
-use Rattle.scan_record.specs.Check.{checkFrom, whole, checkRecord}
+use Rattle.scan_record.specs.Check.{checkFrom, checkRecord}
 use Rattle.alarm_history.specs.Sample.{sampledAt, sampleIn, rateIn}
 use Rattle.report.specs.Empty.{noStatuses, noReport}
 use Rattle.bank_history.specs.Answers.{scanLog, accepted}
@@ -107,7 +107,7 @@ pub record Marked : Type 0 where
 pub all-marked : Marked
 unfolding value bytes largest bounded blanks empty limitsInRange inRange rising banded apart since countFrom rowStart latest inAlarm acks acting
     eventBytes logBytes met frees newRate sampledAt rateIn countAt severitiesAt limitsAt fieldsAt checked recordAt recordsFrom sectionAt restOf readOf
-    isOneOf setsOnly entryAt checkFrom whole checkRecord sampleIn noStatuses noReport scanLog accepted digitalImage words analogImage bit real ofBits
+    isOneOf setsOnly entryAt checkFrom checkRecord sampleIn noStatuses noReport scanLog accepted digitalImage words analogImage bit real ofBits
     ofInt sub add mul div neg lt le eq toBits
 all-marked =
     record {
@@ -156,7 +156,7 @@ pub several : written (analogImage 22 numbers 0 0) (real 0 0x44480000 0 ∷ []) 
     ∷ record { alarm = 1; condition = 3; kind = 8; suppressed = true; severity = 500; time = 5 } ∷ [])
 unfolding value bytes largest bounded blanks empty limitsInRange inRange rising banded apart since countFrom rowStart latest inAlarm acks acting
     eventBytes logBytes met frees newRate sampledAt rateIn countAt severitiesAt limitsAt fieldsAt checked recordAt recordsFrom sectionAt restOf readOf
-    isOneOf setsOnly entryAt checkFrom whole checkRecord sampleIn noStatuses noReport scanLog accepted digitalImage words analogImage bit real ofBits
+    isOneOf setsOnly entryAt checkFrom checkRecord sampleIn noStatuses noReport scanLog accepted digitalImage words analogImage bit real ofBits
     ofInt sub add mul div neg lt le eq
 several = refl
 
@@ -177,7 +177,7 @@ pub record Listing : Type 0 where
 pub listing : Listing
 unfolding value bytes largest bounded blanks empty limitsInRange inRange rising banded apart since countFrom rowStart latest inAlarm acks acting
     eventBytes logBytes met frees newRate sampledAt rateIn countAt severitiesAt limitsAt fieldsAt checked recordAt recordsFrom sectionAt restOf readOf
-    isOneOf setsOnly entryAt checkFrom whole checkRecord sampleIn noStatuses noReport scanLog accepted digitalImage words analogImage bit real ofBits
+    isOneOf setsOnly entryAt checkFrom checkRecord sampleIn noStatuses noReport scanLog accepted digitalImage words analogImage bit real ofBits
     ofInt sub add mul div neg lt le eq
 listing = record { at-1000 = refl; at-1100 = refl; at-1200 = refl; at-1300 = refl; at-1400 = refl; at-1500 = refl; end = refl }
 

@@ -1,8 +1,7 @@
 // A drive: the scan records of standard input, run on a bank.
 use crate::show::add_answer;
 use crate::show::add_bank;
-use layout::sizes::ANALOG_COUNT;
-use layout::sizes::DIGITAL_COUNT;
+use layout::block::counts_in;
 use layout::sizes::MARKS_WORDS;
 use layout::sizes::SETTINGS_WORDS;
 use layout::sizes::STATES_WORDS;
@@ -23,10 +22,7 @@ const EVENTS_ROOM: usize = 3840;
 
 // How many bytes a record for a bank has.
 fn size_for(settings: &[u64; SETTINGS_WORDS]) -> usize {
-    record_length(
-        settings[DIGITAL_COUNT] as usize,
-        settings[ANALOG_COUNT] as usize,
-    )
+    record_length(counts_in(settings))
 }
 
 // Runs a record, and adds its events or its refusal to what waits.

@@ -3,7 +3,7 @@ ghost use Prim.Native.Nat.{_≤_};
 ghost use lib.ListN.{length};
 use bank_text::answers::add_conditions;
 use bank_text::answers::add_refused;
-use layout::sizes::DIGITAL_COUNT;
+use layout::block::counts_in;
 use layout::sizes::MARKS_WORDS;
 use layout::sizes::SETTINGS_WORDS;
 use layout::sizes::STATES_WORDS;
@@ -96,7 +96,8 @@ fn add_alarm(
     if !is_found(found) {
         return waiting;
     }
-    let is_digital = n <= settings[DIGITAL_COUNT] as usize;
+    let counts = counts_in(settings);
+    let is_digital = n <= counts.digital;
     let conditions = found.conditions;
     add_conditions(text, waiting, b"end I A B D E\n", n, is_digital, conditions)
 }

@@ -8,7 +8,8 @@ use lib.ListN.{length}
 use lib.Seq.{sets}
 use Rattle.settings.specs.declared.reply.Reply.{Reply}
 use Rattle.settings.specs.declared.reply.Reply.the-variants.{Accepted, Refused as RefusedBy}
-use Rattle.layout.specs.Internal.Block.{digitalIn, analogIn}
+use Rattle.settings.specs.declared.counts.Counts.{Counts}
+use Rattle.layout.specs.Internal.Block.{countsIn}
 use Rattle.image.specs.declared.write.Written.{Written}
 use Rattle.image.specs.declared.write.Written.the-variants.{Length, Refused as NotWritten}
 use Rattle.scan.specs.declared.answer.Answer.{Answer}
@@ -37,12 +38,12 @@ replyWords Accepted = 0 ∷ 0 ∷ []
 replyWords (RefusedBy r) = r .number ∷ r .place ∷ []
 
 -- load: the numbers of digital and of analog alarms, 0 of a refused image
-abbrev pub loadFields : Reply → ℕ → ℕ → List ℕ
-loadFields Accepted digital analog = 0 ∷ 0 ∷ digital ∷ analog ∷ []
-loadFields (RefusedBy r) digital analog = r .number ∷ r .place ∷ 0 ∷ 0 ∷ []
+abbrev pub loadFields : Reply → Counts → List ℕ
+loadFields Accepted counts = 0 ∷ 0 ∷ counts .digital ∷ counts .analog ∷ []
+loadFields (RefusedBy r) counts = r .number ∷ r .place ∷ 0 ∷ 0 ∷ []
 
 abbrev pub loadAnswer : Reply → List ℕ → List ℕ
-loadAnswer reply settings = loadFields reply (digitalIn settings) (analogIn settings)
+loadAnswer reply settings = loadFields reply (countsIn settings)
 
 -- scan: the number of events
 abbrev pub scanNumber : Answer → ℕ

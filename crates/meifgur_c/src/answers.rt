@@ -12,6 +12,7 @@ use host_bytes::answer::put_two;
 use image::write::Written;
 use replay::replay::Replayed;
 use scan::answer::Answer;
+use settings::counts::Counts;
 use settings::reply::Reply;
 
 // The answer has fewer words than the call fills.
@@ -50,14 +51,14 @@ pub fn put_reply(words: &mut [u64], reply: Reply) -> u32
 }
 
 // Number and place, and how many alarms there are of each kind.
-pub fn put_loaded(words: &mut [u64], reply: Reply, digital: u64, analog: u64) -> u32
+pub fn put_loaded(words: &mut [u64], reply: Reply, counts: Counts) -> u32
     requires { ⌜ 4 ≤ length (now words) ⌝ }
     ensures { λ r. ⌜ r ≡ replyNumber reply ⌝ }
-    ensures { λ _. ⌜ now (words .exit) ≡ sets (now (words .entry)) 0 (loadFields reply digital analog) ⌝ }
+    ensures { λ _. ⌜ now (words .exit) ≡ sets (now (words .entry)) 0 (loadFields reply counts) ⌝ }
 {
     match reply {
         Reply::Accepted => {
-            put_four(words, 0, 0, digital, analog);
+            put_four(words, 0, 0, counts.digital as u64, counts.analog as u64);
             0
         }
         Reply::Refused(refusal) => {

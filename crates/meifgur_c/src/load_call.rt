@@ -2,6 +2,7 @@
 ghost use mathlib.Core.Path.{_≡_};
 ghost use lib.ListN.{length, getD};
 ghost use lib.Seq.{sets};
+ghost use Rattle.layout.specs.Internal.Block.{countsIn};
 ghost use Rattle.bank.specs.Internal.Words.{wordsIn};
 ghost use Rattle.bank.specs.Internal.Load.{loadReply, loadWords};
 ghost use Rattle.meifgur_c.specs.Calls.{unless, shortAnswer, replyNumber, loadAnswer};
@@ -9,12 +10,25 @@ use crate::answers::LOAD_ANSWER;
 use crate::answers::SHORT_ANSWER;
 use crate::answers::put_loaded;
 use bank::load::load;
+use layout::sizes::ANALOG_COUNT;
+use layout::sizes::DIGITAL_COUNT;
+use settings::counts::Counts;
 
 // The word at a place; 0 behind the last.
 fn word_at(words: &[u64], at: usize) -> u64
     ensures { λ r. ⌜ r ≡ getD (now (words .entry)) at 0 ⌝ }
 {
     if at < words.len() { words[at] } else { 0 }
+}
+
+// The counts in a block of any length.
+fn counts_of(words: &[u64]) -> Counts
+    ensures { λ r. ⌜ r ≡ countsIn (now (words .entry)) ⌝ }
+{
+    Counts {
+        digital: word_at(words, DIGITAL_COUNT) as usize,
+        analog: word_at(words, ANALOG_COUNT) as usize,
+    }
 }
 
 // Writes the bank of a settings image, or of a refused one a bank without alarms. Blocks of other lengths are left.
@@ -42,7 +56,6 @@ pub extern "C" fn meifgur_load_words(
         return SHORT_ANSWER;
     }
     let reply = load(image, settings, states, marks);
-    let digital = word_at(settings, 1);
-    let analog = word_at(settings, 2);
-    put_loaded(answer, reply, digital, analog)
+    let counts = counts_of(settings);
+    put_loaded(answer, reply, counts)
 }

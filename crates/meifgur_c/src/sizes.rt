@@ -3,6 +3,7 @@ ghost use mathlib.Core.Path.{_≡_};
 ghost use Rattle.layout.specs.Internal.Sizes.{marksSize, settingsSize, statesSize};
 ghost use Rattle.scan_record.specs.Internal.Size.{lengthOf};
 use scan_record::check::record_length;
+use settings::counts::Counts;
 
 // Of these calls and their layouts.
 #[no_mangle]
@@ -69,7 +70,7 @@ pub extern "C" fn meifgur_marks_words() -> u32
 // Bytes of a scan record, for so many alarms of each kind.
 #[no_mangle]
 pub extern "C" fn meifgur_record_length(digital: usize, analog: usize) -> usize
-    ensures { λ r. ⌜ r ≡ lengthOf digital analog ⌝ }
+    ensures { λ r. ⌜ r ≡ lengthOf (record { digital = digital; analog = analog }) ⌝ }
 {
-    record_length(digital, analog)
+    record_length(Counts { digital, analog })
 }

@@ -10,13 +10,14 @@ use borrow.Author.Tests.{lt-ltb, le-ltb}
 use lib.Dec.{ltb}
 use lib.ListN.{length, getD, set, length-set, length-replicate, replicate}
 use lib.Seq.{getD-set-same, getD-set-other}
-use Rattle.settings.specs.Alarm.{blank, blanks, empty, formAt}
+use Rattle.settings.specs.Counts.{inAll, formAt}
+use Rattle.settings.specs.Alarm.{blank, blanks, empty}
+use Rattle.settings.specs.Internal.Few.{Few}
 use Rattle.settings.specs.Refusals.{refusal}
 use Rattle.settings.specs.declared.types.Alarm.{Alarm}
 use Rattle.settings.specs.declared.types.Form.{Form}
 use Rattle.settings.specs.declared.types.Form.the-variants.{Digital, Analog}
 use Rattle.settings.specs.declared.types.Settings.{Settings}
-use Rattle.settings.specs.declared.reply.Refusal.{Refusal}
 use Rattle.settings.specs.declared.reply.Reply.the-variants.{Accepted}
 use Rattle.settings_record.specs.Record.{recordAt}
 use Rattle.settings_record.specs.declared.record.Record.{Record}
@@ -41,11 +42,10 @@ pub record Filling (P : Alarm → Type 0) (n place : ℕ) (alarms filled : List 
 
 -- of settings: each alarm has the property that its place asks for, and the places behind the last are blank
 pub record Settled (P : Form → Alarm → Type 0) (s : Settings) : Type 0 where
-  pub digital-most : s .digital ≤ 12
-  pub analog-most : s .analog ≤ 12
+  pub most : Few (s .counts)
   pub long : length (s .alarms) ≡ 24
-  pub read : (i : ℕ) → i < s .digital + s .analog → P (formAt (s .digital) i) (getD (s .alarms) i blank)
-  pub behind : (i : ℕ) → s .digital + s .analog ≤ i → getD (s .alarms) i blank ≡ blank
+  pub read : (i : ℕ) → i < inAll (s .counts) → P (formAt (s .counts) i) (getD (s .alarms) i blank)
+  pub behind : (i : ℕ) → inAll (s .counts) ≤ i → getD (s .alarms) i blank ≡ blank
 
 -- ---- a section
 
@@ -80,12 +80,9 @@ module _ (form : Form) (image : List ℕ) (P : Alarm → Type 0)
       rest : Alarm → ℕ → Filled
       rest a past = recordsFrom form image n k (place + 1) past (set alarms place a)
 
-      stop : Refusal → Filled
-      stop r = record { alarms = alarms; section = Refused r }
-
       go : (r : Record) → recordAt form image at ≡ r
           → ((a : Alarm) (past : ℕ) → rest a past .section ≡ Read m next → Filling P k (place + 1) (set alarms place a) (rest a past .alarms))
-          → onRecord r rest stop .section ≡ Read m next → Filling P (suc k) place alarms (onRecord r rest stop .alarms)
+          → onRecord r alarms rest .section ≡ Read m next → Filling P (suc k) place alarms (onRecord r alarms rest .alarms)
       go (Recorded a past) f ih e = more k place alarms (rest a past .alarms) a h (each at a past f) (ih a past e)
       go (NoRecord r) f ih e = let z : _≡_ {A = ℕ} 0 1 = cc in absurd (omega arith)
 
@@ -98,11 +95,8 @@ module _ (form : Form) (image : List ℕ) (P : Alarm → Type 0)
       rest : ℕ → ℕ → Filled
       rest m past = recordsFrom form image m m first past alarms
 
-      stop : Refusal → Filled
-      stop r = record { alarms = alarms; section = Refused r }
-
-      go : (c : Count) → countAt image at ≡ c → onCount c rest stop .section ≡ Read n next
-          → (n ≤ 12) × Filling P n first alarms (onCount c rest stop .alarms)
+      go : (c : Count) → countAt image at ≡ c → onCount c alarms rest .section ≡ Read n next
+          → (n ≤ 12) × Filling P n first alarms (onCount c alarms rest .alarms)
       go (Alarms m past) f e =
           let c = count-read image at f in
           let n≡ : n ≡ m = records-count form image m m first past alarms e in
@@ -123,8 +117,7 @@ module _ (image : List ℕ) (P : Form → Alarm → Type 0)
   unfolding empty blanks
   settled-none =
       record {
-        digital-most = omega arith;
-        analog-most = omega arith;
+        most = record { digital = omega arith; analog = omega arith };
         long = length-replicate 24 blank;
         read = λ i m. absurd (omega arith);
         behind = λ i m. blank-at 24 i;
@@ -132,18 +125,17 @@ module _ (image : List ℕ) (P : Form → Alarm → Type 0)
 
   -- both sections
   settled-both : (d a : ℕ) (alarms filled : List Alarm) → d ≤ 12 → Filling (P Digital) d 0 blanks alarms → a ≤ 12 → Filling (P Analog) a d alarms filled
-      → Settled P (record { digital = d; analog = a; alarms = filled })
+      → Settled P (record { counts = record { digital = d; analog = a }; alarms = filled })
   unfolding blanks
   settled-both d a alarms filled m x n y =
       record {
-        digital-most = m;
-        analog-most = n;
+        most = record { digital = m; analog = n };
         long = y .long ∙ x .long ∙ length-replicate 24 blank;
         read = λ i h. read-from i h (decLe d i);
         behind = λ i h. y .behind i h ∙ x .behind i (omega arith) ∙ blank-at 24 i;
       }
     where
-      read-from : (i : ℕ) → i < d + a → Dec (d ≤ i) → P (formAt d i) (getD filled i blank)
+      read-from : (i : ℕ) → i < d + a → Dec (d ≤ i) → P (formAt (record { digital = d; analog = a }) i) (getD filled i blank)
       read-from i h (yes l) = rw (le-ltb i d l) (y .read i l h)
       read-from i h (no l) =
           let k = lt-of-not-le l in
@@ -157,7 +149,7 @@ module _ (image : List ℕ) (P : Form → Alarm → Type 0)
       filled = sectionAt Analog image d next alarms
 
       read : ℕ → Loaded
-      read a = record { settings = record { digital = d; analog = a; alarms = filled .alarms }; reply = Accepted }
+      read a = record { settings = record { counts = record { digital = d; analog = a }; alarms = filled .alarms }; reply = Accepted }
 
       ended : (a end : ℕ) (t : Bool) → filled .section ≡ Read a end → Settled P (cond t (refusedBy (refusal 6 end)) (read a) .settings)
       ended a end true f = settled-none

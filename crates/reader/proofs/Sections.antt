@@ -53,7 +53,7 @@ records-count form image n (suc k) place at alarms {m} {next} e =
     rest a past = recordsFrom form image n k (place + 1) past (set alarms place a)
 
     go : (r : Record) → ((a : Alarm) (past : ℕ) → rest a past .section ≡ Read m next → m ≡ n)
-        → onRecord r rest (λ r. record { alarms = alarms; section = Refused r }) .section ≡ Read m next → m ≡ n
+        → onRecord r alarms rest .section ≡ Read m next → m ≡ n
     go (Recorded a past) ih e = ih a past e
     go (NoRecord r) ih e = cc
 
@@ -83,7 +83,7 @@ unfolding sectionAt
 section-most form image first at alarms {n} {next} e = go (countAt image at) refl e
   where
     go : (c : Count) → countAt image at ≡ c
-        → onCount c (λ m past. recordsFrom form image m m first past alarms) (λ r. record { alarms = alarms; section = Refused r }) .section ≡ Read n next
+        → onCount c alarms (λ m past. recordsFrom form image m m first past alarms) .section ≡ Read n next
         → n ≤ 12
     go (Alarms m past) h e = let x : n ≡ m = records-count form image m m first past alarms e in omega (arith, count-read image at h .most)
     go (NoCount r) h e = let z : _≡_ {A = ℕ} 0 1 = cc in omega arith

@@ -4,7 +4,7 @@ use mathlib.Core.List.{List}
 use mathlib.Core.Bool.{cond}
 use lib.Dec.{ltb, leb}
 use lib.ListN.{length, getD}
-use Rattle.settings.specs.Alarm.{eachMost}
+use Rattle.settings.specs.Counts.{eachMost}
 use Rattle.settings.specs.Refusals.{refusal}
 use Rattle.reader.specs.declared.count.Count.{Count}
 use Rattle.reader.specs.declared.count.Count.the-variants.{Alarms, Refused}

@@ -26,14 +26,11 @@ onSection (Refused r) f = refusedBy r
 -- after d digital alarms: the analog section, then nothing more (6 at the first byte left over)
 unfoldable pub restOf : List ℕ → ℕ → ℕ → List Alarm → Loaded
 restOf image d at alarms =
-    onSection (sectionAt Analog image d at alarms .section)
+    let filled = sectionAt Analog image d at alarms in
+    onSection (filled .section)
     (λ a end.
-    cond (ltb end (length image))
-    (refusedBy (refusal 6 end))
-    (record {
-      settings = record { digital = d; analog = a; alarms = sectionAt Analog image d at alarms .alarms };
-      reply = Accepted;
-    }))
+    cond (ltb end (length image)) (refusedBy (refusal 6 end))
+    (record { settings = record { counts = record { digital = d; analog = a }; alarms = filled .alarms }; reply = Accepted }))
 
 -- the digital section from offset 0, then the rest
 unfoldable pub readOf : List ℕ → Loaded

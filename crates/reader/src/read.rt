@@ -5,6 +5,7 @@ ghost use Rattle.reader.specs.Read.{readOf, restOf, refusedBy};
 use crate::section::Section;
 use crate::section::section_at;
 use settings::counts::ALARMS;
+use settings::counts::Counts;
 use settings::refusals::LEFT_OVER;
 use settings::reply::Refusal;
 use settings::reply::Reply;
@@ -46,11 +47,8 @@ fn read_rest(image: &[u8], digital: usize, at: usize, given: [Alarm; ALARMS]) ->
                 });
             }
             let alarms = filled.alarms;
-            let settings = Settings {
-                digital,
-                analog,
-                alarms,
-            };
+            let counts = Counts { digital, analog };
+            let settings = Settings { counts, alarms };
             Loaded {
                 settings,
                 reply: Reply::Accepted,

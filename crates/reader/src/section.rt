@@ -1,7 +1,7 @@
 // A section of a settings image: its count, then a record for each alarm.
 ghost use mathlib.Core.Path.{_≡_};
 ghost use Prim.Native.Nat.{_+_, _-_, _≤_};
-ghost use Rattle.settings.specs.Alarm.{allMost};
+ghost use Rattle.settings.specs.Counts.{allMost};
 ghost use Rattle.reader.specs.Section.{recordsFrom, sectionAt};
 use crate::count::Count;
 use crate::count::count_at;

@@ -1,6 +1,6 @@
 -- Laws of runs of records: what a run keeps, and where each record begins and ends. Assumes nothing.
 use mathlib.Core.Path.{_≡_, refl, sym, ap, _∙_}
-use mathlib.Core.Bool.{Bool, true, false, cond, _&&_}
+use mathlib.Core.Bool.{Bool, true, false, cond}
 use mathlib.Core.List.{List, _++_, append-nil}
 use Prim.Native.Nat.{ℕ, zero, suc, _+_, _-_, _*_, _≤_, _<_, min}
 use native.Mathlib.Nat.{mul-zero, mul-comm, mul-suc, div-eq-of-lt-le, mul-le-mul-right}
@@ -10,7 +10,9 @@ use borrow.Author.Tests.{leb-true, leb-false}
 use lib.Dec.{leb}
 use lib.ListN.{length, take, drop, length-append, length-take, length-drop, drop-of-length-le}
 use lib.Seq.{take-all}
-use Rattle.layout.specs.Internal.Block.{digitalIn, analogIn}
+use Rattle.settings.specs.Counts.{areGood}
+use Rattle.settings.specs.declared.counts.Counts.{Counts}
+use Rattle.layout.specs.Internal.Block.{countsIn}
 use Rattle.scan_record.specs.Part.{recordSize}
 use Rattle.scan_record.specs.Internal.Size.{lengthOf}
 use Rattle.bank.specs.Lent.{Words}
@@ -23,11 +25,11 @@ use Rattle.replay.specs.Replay.{sizeFor, driveRecord, recordsIn, noneYet
 use Rattle.replay.specs.declared.replay.Tally.{Tally}
 
 -- a record has at least its time
-size-least : (digital analog : ℕ) → 8 ≤ lengthOf digital analog
+size-least : (counts : Counts) → 8 ≤ lengthOf counts
 unfolding lengthOf
-size-least digital analog = go (leb digital 12 && leb analog 12)
+size-least counts = go (areGood counts)
   where
-    go : (t : Bool) → 8 ≤ cond t (recordSize digital analog) 8
+    go : (t : Bool) → 8 ≤ cond t (recordSize counts) 8
     go true = omega arith
     go false = omega arith
 
@@ -175,13 +177,13 @@ going-first w bytes out =
     record {
       sized = refl;
       begins = omega (arith, mul-zero (sizeFor w));
-      begun = omega (arith, mul-zero (sizeFor w), size-least (digitalIn (w .settings)) (analogIn (w .settings)));
+      begun = omega (arith, mul-zero (sizeFor w), size-least (countsIn (w .settings)));
       so-far = refl;
     }
 
 module _ {w : Words} {bytes out : List ℕ} {size : ℕ} {p : Progress} {i at : ℕ} (g : Going w bytes out size p i at) where
   pub least : 8 ≤ size
-  least = rw (g .sized) (size-least (digitalIn (w .settings)) (analogIn (w .settings)))
+  least = rw (g .sized) (size-least (countsIn (w .settings)))
 
   pub has-room : 16 * p .tally .events ≤ length (p .buffer)
   has-room = rw (g .so-far) (omega (arith, kept w bytes out i .room, kept w bytes out i .same))

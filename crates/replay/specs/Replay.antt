@@ -6,7 +6,7 @@ use lib.Dec.{eqb}
 use lib.ListN.{length, take, drop}
 use Rattle.settings.specs.declared.reply.Reply.{Reply}
 use Rattle.settings.specs.declared.reply.Reply.the-variants.{Accepted, Refused as RefusedBy}
-use Rattle.layout.specs.Internal.Block.{digitalIn, analogIn}
+use Rattle.layout.specs.Internal.Block.{countsIn}
 use Rattle.scan_record.specs.Internal.Size.{lengthOf}
 use Rattle.bank.specs.Internal.Words.{onReply, fitOf}
 use Rattle.bank.specs.Lent.{Words}
@@ -18,7 +18,7 @@ use Rattle.replay.specs.declared.replay.Tally.{Tally}
 
 -- the length of a bank's records
 abbrev pub sizeFor : Words → ℕ
-sizeFor w = lengthOf (digitalIn (w .settings)) (analogIn (w .settings))
+sizeFor w = lengthOf (countsIn (w .settings))
 
 -- the record with an index, from 0; the last one may be shorter
 abbrev pub driveRecord : ℕ → List ℕ → ℕ → List ℕ

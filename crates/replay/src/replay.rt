@@ -6,8 +6,7 @@ ghost use Rattle.layout.specs.Internal.Sizes.{marksSize, settingsSize, statesSi
 ghost use Rattle.bank.specs.Internal.Words.{wordsIn};
 ghost use Rattle.replay.specs.Replay.{noneYet, counted, replied, replayOf, replayedOf, replayedWords, replayedBuffer};
 use bank::fit::fit;
-use layout::sizes::ANALOG_COUNT;
-use layout::sizes::DIGITAL_COUNT;
+use layout::block::counts_in;
 use scan::answer::Answer;
 use scan::scan::scan;
 use scan_record::check::record_length;
@@ -132,10 +131,7 @@ fn run(
     ensures { λ _. ⌜ now (out .exit) ≡ replayOf (wordsIn (now (settings .entry)) (now (states .entry)) (now (marks .entry))) (now (bytes .entry))
         (now (out .entry)) .buffer ⌝ }
 {
-    let size = record_length(
-        settings[DIGITAL_COUNT] as usize,
-        settings[ANALOG_COUNT] as usize,
-    );
+    let size = record_length(counts_in(settings));
     let mut done = none_yet();
     let mut index = 0;
     let mut at = 0;

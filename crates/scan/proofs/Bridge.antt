@@ -12,12 +12,14 @@ use lib.ListN.{length, getD, set, replicate, length-replicate}
 use lib.Seq.{sets, length-sets, getD-set-same, ext-getD}
 use Rattle.layout.proofs.Laws.{length-placed, placed-above, placed-below}
 use Rattle.wire.proofs.Laws.{below}
-use Rattle.settings.specs.Alarm.{blank, formAt}
+use Rattle.settings.specs.Alarm.{blank}
+use Rattle.settings.specs.declared.counts.Counts.{Counts}
 use Rattle.settings.specs.declared.types.Alarm.{Alarm}
+use Rattle.settings.specs.declared.reply.Reply.{Reply}
 use Rattle.settings.specs.declared.reply.Reply.the-variants.{Accepted}
-use Rattle.layout.specs.Internal.Block.{placed, digitalIn, analogIn, countIn, alarmOn, settingsIn}
+use Rattle.layout.specs.Internal.Block.{placed, countsIn, countIn, alarmOn, settingsIn}
 use Rattle.scan_record.specs.Part.{timeOf, recordSize}
-use Rattle.scan_record.specs.Check.{checkFrom}
+use Rattle.scan_record.specs.Check.{checkFrom, checkRecord}
 use Rattle.scan_record.proofs.Entries.{PartRead, Whole, all-read, accepted-says}
 use Rattle.event.specs.Event.{Event}
 use Rattle.state.specs.Internal.Held.{freshState}
@@ -35,55 +37,53 @@ use Rattle.sweep.proofs.Stepped.{small-on}
 use Rattle.sweep.proofs.Loops.{not-yet, stepped-length}
 
 module _ (w : Words) (rec : List ℕ) (accepted : checkOf (bankIn w) rec ≡ Accepted) where
-  abbrev digital : ℕ
-  digital = digitalIn (w .settings)
+  abbrev counts : Counts
+  counts = countsIn (w .settings)
 
   abbrev count : ℕ
   count = countIn (w .settings)
 
-  says : Whole digital (analogIn (w .settings)) (length rec) × (getD (w .states) 0 0 ≤ timeOf rec) × (checkFrom rec digital count 0 8 ≡ Accepted)
+  says : Whole counts (length rec) × (getD (w .states) 0 0 ≤ timeOf rec) × (checkFrom rec counts count 0 8 ≡ Accepted)
   unfolding bankIn settingsIn
-  says = accepted-says digital (analogIn (w .settings)) (getD (w .states) 0 0) rec accepted
+  says = accepted-says counts (getD (w .states) 0 0) rec accepted
 
-  whole : Whole digital (analogIn (w .settings)) (length rec)
+  whole : Whole counts (length rec)
   whole = says .0
 
   most : count ≤ 24
-  most = omega (arith, whole .digital-most, whole .analog-most)
+  most = omega (arith, whole .most)
 
-  pub ready : (length (w .settings) ≡ 292) × (length (w .states) ≡ 580) × (length (w .marks) ≡ 900) → Ready w rec digital (analogIn (w .settings))
+  ready : (length (w .settings) ≡ 292) × (length (w .states) ≡ 580) × (length (w .marks) ≡ 900) → Ready w rec counts
   ready l =
       record {
-        digital-most = whole .digital-most;
-        analog-most = whole .analog-most;
+        most = whole .most;
         settings-long = l .0;
         states-long = l .1;
         marks-long = l .2;
-        digital-is = refl;
-        analog-is = refl;
+        counts-are = refl;
         record-long = whole .size;
       }
 
-  read : (p : ℕ) → p < count → PartRead rec digital p
-  read p h = all-read rec digital count 0 8 (omega arith) (says .2) p (omega arith) (omega arith)
+  read : (p : ℕ) → p < count → PartRead rec counts p
+  read p h = all-read rec counts count 0 8 (omega arith) (says .2) p (omega arith) (omega arith)
 
   -- ---- the step at a place
 
-  pub step-is : (p : ℕ) → p < count → stepAt rec (bankIn w .settings .digital) (bankIn w .settings .alarms) (bankIn w .states) (timeOf rec) p ≡ stepOn w rec p
+  pub step-is : (p : ℕ) → p < count → stepAt rec (bankIn w .settings .counts) (bankIn w .settings .alarms) (bankIn w .states) (timeOf rec) p ≡ stepOn w rec p
   unfolding stepPart stepOn placeStep bankIn settingsIn
   step-is p h = λ i. stepEntry (read p h i) (alarm-there w p most h i) (state-there w p (omega (arith, most)) i) (timeOf rec)
 
   state-after : (p : ℕ) → p < count → getD (planFor (bankIn w) rec .states) p freshState ≡ stepOn w rec p .state
   unfolding planOf bankIn settingsIn
   state-after p h =
-      placed-below (λ q. stepAt rec digital (bankIn w .settings .alarms) (bankIn w .states) (timeOf rec) q .state) count p (bankIn w .states) freshState h
+      placed-below (λ q. stepAt rec counts (bankIn w .settings .alarms) (bankIn w .states) (timeOf rec) q .state) count p (bankIn w .states) freshState h
       (omega (arith, most, length-placed (λ q. stateIn (w .states) (stateAt q)) 24 (replicate 24 freshState), length-replicate 24 freshState))
       ∙ ap (λ (s : Stepped). s .state) (step-is p h)
 
   event-after : (p : ℕ) → p < count → getD (planFor (bankIn w) rec .events) p 0 ≡ stepOn w rec p .events
   unfolding planOf bankIn settingsIn
   event-after p h =
-      placed-below (λ q. stepAt rec digital (bankIn w .settings .alarms) (bankIn w .states) (timeOf rec) q .events) count p (replicate 24 0) 0 h
+      placed-below (λ q. stepAt rec counts (bankIn w .settings .alarms) (bankIn w .states) (timeOf rec) q .events) count p (replicate 24 0) 0 h
       (omega (arith, most, length-replicate {A = ℕ} 24 0))
       ∙ ap (λ (s : Stepped). s .events) (step-is p h)
 
@@ -155,7 +155,7 @@ module _ (w : Words) (rec : List ℕ) (accepted : checkOf (bankIn w) rec ≡ Acc
     above : (p : ℕ) → count ≤ p → getD (planFor (bankIn w) rec .states) p freshState ≡ getD (bankIn w .states) p freshState
     unfolding planOf bankIn settingsIn
     above p h =
-        placed-above (λ q. stepAt rec digital (bankIn w .settings .alarms) (bankIn w .states) (timeOf rec) q .state) count p (bankIn w .states) freshState h
+        placed-above (λ q. stepAt rec counts (bankIn w .settings .alarms) (bankIn w .states) (timeOf rec) q .state) count p (bankIn w .states) freshState h
 
     planned : (p : ℕ) → p < 24 → (t : Bool) → ltb p count ≡ t → stateOf p ≡ getD (planFor (bankIn w) rec .states) p freshState
     planned p h true e = let l = ltb-true p count e in behind p ∙ stepped-state long count p (omega arith) l ∙ sym (state-after p l)
@@ -165,7 +165,7 @@ module _ (w : Words) (rec : List ℕ) (accepted : checkOf (bankIn w) rec ≡ Acc
     plan-long : length (planFor (bankIn w) rec .states) ≡ 24
     unfolding planOf bankIn settingsIn
     plan-long =
-        length-placed (λ q. stepAt rec digital (bankIn w .settings .alarms) (bankIn w .states) (timeOf rec) q .state) count (bankIn w .states)
+        length-placed (λ q. stepAt rec counts (bankIn w .settings .alarms) (bankIn w .states) (timeOf rec) q .state) count (bankIn w .states)
         ∙ length-placed (λ q. stateIn (w .states) (stateAt q)) 24 (replicate 24 freshState)
         ∙ length-replicate 24 freshState
 
@@ -185,3 +185,14 @@ module _ (w : Words) (rec : List ℕ) (accepted : checkOf (bankIn w) rec ≡ Acc
     pub bank-after : bankIn (wordsAfter w rec) ≡ bankAfter (bankIn w) rec
     unfolding bankIn wordsAfter settingsIn
     bank-after = λ i. record { settings = settingsIn (w .settings); time = time-is i; states = states-are i; marks = sym (marks-to count (omega arith)) i }
+
+-- ---- of counts that were read off the words
+
+module _ (w : Words) (rec : List ℕ) {counts : Counts} (e : counts ≡ countsIn (w .settings)) where
+  pub check-is : {r : Reply} → checkRecord counts (getD (w .states) 0 0) rec ≡ r → checkOf (bankIn w) rec ≡ r
+  unfolding bankIn settingsIn
+  check-is h = ap (λ (k : Counts). checkRecord k (getD (w .states) 0 0) rec) (sym e) ∙ h
+
+  pub ready-for : checkRecord counts (getD (w .states) 0 0) rec ≡ Accepted
+      → (length (w .settings) ≡ 292) × (length (w .states) ≡ 580) × (length (w .marks) ≡ 900) → Ready w rec counts
+  ready-for h l = rw e (ready w rec (check-is h) l)

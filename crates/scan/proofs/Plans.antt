@@ -9,7 +9,9 @@ use Rattle.settings.specs.Internal.Reals.{realAnalog}
 use Rattle.wire.specs.Bits.{bit}
 use Rattle.wire.proofs.WordLaws.{word-lt}
 use Rattle.wire.specs.Internal.Places.{wordBits}
-use Rattle.settings.specs.Alarm.{blank, formAt}
+use Rattle.settings.specs.Counts.{inAll, formAt}
+use Rattle.settings.specs.Alarm.{blank}
+use Rattle.settings.specs.declared.counts.Counts.{Counts}
 use Rattle.settings.specs.Numbers.{reals}
 use Rattle.settings.specs.declared.types.Alarm.{Alarm}
 use Rattle.settings.specs.declared.types.Kind.{Kind}
@@ -40,16 +42,16 @@ entry-word : (e : Entry) (a : Alarm) (s : State) (time : ℕ) → stepEntry e a 
 entry-word (Read x word next) a s time = step-word (a .kind) a s x word time
 entry-word (Refused r) a s time = omega arith
 
-module _ (rec : List ℕ) (digital : ℕ) (alarms : List Alarm) (states : List State) (time : ℕ) where
+module _ (rec : List ℕ) (counts : Counts) (alarms : List Alarm) (states : List State) (time : ℕ) (most : inAll counts ≤ 24) where
   -- the event word of the alarm at a place
-  pub word-at : (n i : ℕ) → n ≤ 24 → i < n → getD (planOf rec digital n alarms states time .events) i 0 ≡ stepAt rec digital alarms states time i .events
+  pub word-at : (i : ℕ) → i < inAll counts → getD (planOf rec counts alarms states time .events) i 0 ≡ stepAt rec counts alarms states time i .events
   unfolding planOf
-  word-at n i m h = placed-below (λ p. stepAt rec digital alarms states time p .events) n i (replicate 24 0) 0 h m
+  word-at i h = placed-below (λ p. stepAt rec counts alarms states time p .events) (inAll counts) i (replicate 24 0) 0 h most
 
-  pub word-small : (n i : ℕ) → n ≤ 24 → i < n → getD (planOf rec digital n alarms states time .events) i 0 < 2 ^ wordBits
+  pub word-small : (i : ℕ) → i < inAll counts → getD (planOf rec counts alarms states time .events) i 0 < 2 ^ wordBits
   unfolding stepPart
-  word-small n i m h =
-      rw (word-at n i m h) (entry-word (entryAt (formAt digital i) rec (offsetOf digital i) (i + 1)) (getD alarms i blank) (getD states i freshState) time)
+  word-small i h =
+      rw (word-at i h) (entry-word (entryAt (formAt counts i) rec (offsetOf counts i) (i + 1)) (getD alarms i blank) (getD states i freshState) time)
 
 -- ---- the events of all alarms
 

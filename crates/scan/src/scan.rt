@@ -1,33 +1,33 @@
 // One scan of a bank, in place.
 ghost use mathlib.Core.Path.{_≡_};
-ghost use Prim.Native.Nat.{_+_, _*_, _≤_};
 ghost use lib.ListN.{length};
 ghost use Rattle.layout.specs.Internal.Sizes.{marksSize, settingsSize, statesSize};
+ghost use Rattle.settings.specs.Internal.Few.{Few};
 ghost use Rattle.settings.specs.Refusals.{refusal};
 ghost use Rattle.bank.specs.Internal.Words.{wordsIn, bankIn};
-ghost use Rattle.sweep.specs.Internal.Sweep.{Ready};
+ghost use Rattle.sweep.specs.Internal.Sweep.{Ready, mostBytes};
 ghost use Rattle.scan.specs.Internal.Scan.{eventBuffer};
 ghost use Rattle.scan.specs.Internal.Words.{checkedAnswer, checkedWords, checkedOut, bankAnswer, bankWords, answerOf, scannedWords, bufferOf};
 use crate::answer::Answer;
 use crate::copy::copy_bytes;
 use crate::copy::copy_words;
 use bank::fit::fit;
-use layout::sizes::ANALOG_COUNT;
-use layout::sizes::DIGITAL_COUNT;
+use layout::block::counts_in;
 use layout::sizes::MARKS_WORDS;
 use layout::sizes::STATES_WORDS;
 use scan_record::check::check_record;
+use settings::counts::Counts;
 use settings::refusals::EVENTS_TOO_LONG;
 use settings::reply::Refusal;
 use settings::reply::Reply;
 use sweep::alarms::scan_alarms;
 
-// Bytes of events that a scan of so many alarms has at most: 5 and 15 events an alarm.
-fn most_bytes(digital: usize, analog: usize) -> usize
-    requires { ⌜ (digital ≤ 12) × (analog ≤ 12) ⌝ }
-    ensures { λ r. ⌜ r ≡ 80 * digital + 240 * analog ⌝ }
+// Bytes of events that a scan has at most: 5 events of a digital alarm, 15 of an analog one.
+fn most_bytes(counts: Counts) -> usize
+    requires { ⌜ Few counts ⌝ }
+    ensures { λ r. ⌜ r ≡ mostBytes counts ⌝ }
 {
-    80 * digital + 240 * analog
+    80 * counts.digital + 240 * counts.analog
 }
 
 // The events of a scan need more bytes than the buffer has.
@@ -48,10 +48,9 @@ fn scan_short(
     marks: &mut [u64],
     bytes: &[u8],
     out: &mut [u8],
-    digital: usize,
-    analog: usize,
+    counts: Counts,
 ) -> Answer
-    requires { ⌜ Ready (wordsIn (now settings) (now states) (now marks)) (now bytes) digital analog ⌝ }
+    requires { ⌜ Ready (wordsIn (now settings) (now states) (now marks)) (now bytes) counts ⌝ }
     ensures { λ r. ⌜ r ≡ checkedAnswer (wordsIn (now (settings .entry)) (now (states .entry)) (now (marks .entry))) (now (bytes .entry))
         (length (now (out .entry))) ⌝ }
     ensures { λ _. ⌜ now (states .exit) ≡ checkedWords (wordsIn (now (settings .entry)) (now (states .entry)) (now (marks .entry)))
@@ -72,8 +71,7 @@ fn scan_short(
         &mut marked,
         bytes,
         &mut events,
-        digital,
-        analog,
+        counts,
     );
     if out.len() < used {
         return too_long();
@@ -102,16 +100,15 @@ fn scan_bank(
     ensures { λ _. ⌜ now (out .exit) ≡ eventBuffer (bankIn (wordsIn (now (settings .entry)) (now (states .entry)) (now (marks .entry))))
         (now (bytes .entry)) (now (out .entry)) ⌝ }
 {
-    let digital = settings[DIGITAL_COUNT] as usize;
-    let analog = settings[ANALOG_COUNT] as usize;
-    let reply = check_record(bytes, digital, analog, states[0]);
+    let counts = counts_in(settings);
+    let reply = check_record(bytes, counts, states[0]);
     if let Reply::Refused(refusal) = reply {
         return Answer::Refused(refusal);
     }
-    if out.len() < most_bytes(digital, analog) {
-        return scan_short(settings, states, marks, bytes, out, digital, analog);
+    if out.len() < most_bytes(counts) {
+        return scan_short(settings, states, marks, bytes, out, counts);
     }
-    let used = scan_alarms(settings, states, marks, bytes, out, digital, analog);
+    let used = scan_alarms(settings, states, marks, bytes, out, counts);
     Answer::Events(used / 16)
 }
 

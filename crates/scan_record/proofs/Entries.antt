@@ -6,9 +6,10 @@ use Prim.Native.Nat.{ℕ, zero, suc, _+_, _-_, _≤_, _<_}
 use native.Mathlib.Nat.{sub-self}
 use native.Mathlib.Omega.{arith}
 use borrow.Author.Tests.{ltb-true, ltb-false, eqb-true}
-use lib.Dec.{ltb, leb, eqb}
+use lib.Dec.{ltb, eqb}
 use lib.ListN.{length}
-use Rattle.wire.proofs.Laws.{and-true, most-true}
+use Rattle.wire.proofs.Laws.{and-true}
+use Rattle.settings.proofs.Few.{few}
 use Rattle.wire.specs.Bits.{setsOnly}
 use Rattle.settings.specs.Refusals.{checked, refusal}
 use Rattle.settings.specs.declared.types.Form.{Form}
@@ -19,8 +20,10 @@ use Rattle.settings.specs.declared.reply.Reply.the-variants.{Accepted, Refused 
 use Rattle.settings.specs.declared.types.Reading.{Reading}
 use Rattle.scan_record.specs.Entry.{bitsOf, readingCheck, entryAt}
 use Rattle.scan_record.specs.Part.{recordSize, timeOf, offsetOf, readingAt, wordAt, entrySize}
-use Rattle.settings.specs.Alarm.{formAt}
-use Rattle.scan_record.specs.Check.{checkFrom, whole, checkRecord}
+use Rattle.settings.specs.Counts.{areGood, inAll, formAt}
+use Rattle.settings.specs.Internal.Few.{Few}
+use Rattle.settings.specs.declared.counts.Counts.{Counts}
+use Rattle.scan_record.specs.Check.{checkFrom, checkRecord}
 use Rattle.scan_record.specs.declared.entry.Entry.the-variants.{Read, Refused}
 use Rattle.scan_record.specs.declared.entry.Entry.{Entry}
 
@@ -46,74 +49,67 @@ pub entry-past : (form : Form) (bytes : List ℕ) (at alarm : ℕ) {x : Reading}
     → next ≡ at + entrySize form
 entry-past form bytes at alarm e = let r = entry-read form bytes at alarm e in cc
 
-pub offset-next : (digital place : ℕ) → offsetOf digital place + entrySize (formAt digital place) ≡ offsetOf digital (place + 1)
-offset-next digital place = go (ltb place digital) refl
+pub offset-next : (counts : Counts) (place : ℕ) → offsetOf counts place + entrySize (formAt counts place) ≡ offsetOf counts (place + 1)
+offset-next counts place = go (ltb place (counts .digital)) refl
   where
-    go : (t : Bool) → ltb place digital ≡ t → offsetOf digital place + entrySize (cond t Digital Analog) ≡ offsetOf digital (place + 1)
-    go true e = omega (arith, ltb-true place digital e)
-    go false e = omega (arith, ltb-false place digital e)
+    go : (t : Bool) → ltb place (counts .digital) ≡ t → offsetOf counts place + entrySize (cond t Digital Analog) ≡ offsetOf counts (place + 1)
+    go true e = omega (arith, ltb-true place (counts .digital) e)
+    go false e = omega (arith, ltb-false place (counts .digital) e)
 
-module _ (bytes : List ℕ) (digital : ℕ) where
+module _ (bytes : List ℕ) (counts : Counts) where
   one-left : {place end : ℕ} → place < end → end - place ≡ suc (end - (place + 1))
   one-left h = omega arith
 
-  pub check-next : {place end : ℕ} (at : ℕ) {x : Reading} {word next : ℕ} → place < end → entryAt (formAt digital place) bytes at (place + 1) ≡ Read x word next
-      → checkFrom bytes digital (end - place) place at ≡ checkFrom bytes digital (end - (place + 1)) (place + 1) next
+  pub check-next : {place end : ℕ} (at : ℕ) {x : Reading} {word next : ℕ} → place < end → entryAt (formAt counts place) bytes at (place + 1) ≡ Read x word next
+      → checkFrom bytes counts (end - place) place at ≡ checkFrom bytes counts (end - (place + 1)) (place + 1) next
   unfolding checkFrom
   check-next at h e = rw (one-left h, e)
 
-  pub check-stop : {place end : ℕ} (at : ℕ) {r : Refusal} → place < end → entryAt (formAt digital place) bytes at (place + 1) ≡ Refused r
-      → checkFrom bytes digital (end - place) place at ≡ RefusedBy r
+  pub check-stop : {place end : ℕ} (at : ℕ) {r : Refusal} → place < end → entryAt (formAt counts place) bytes at (place + 1) ≡ Refused r
+      → checkFrom bytes counts (end - place) place at ≡ RefusedBy r
   unfolding checkFrom
   check-stop at h e = rw (one-left h, e)
 
-  pub check-end : (place at : ℕ) → checkFrom bytes digital (place - place) place at ≡ Accepted
+  pub check-end : (place at : ℕ) → checkFrom bytes counts (place - place) place at ≡ Accepted
   unfolding checkFrom
   check-end place at = rw sub-self
 
   -- the part of the alarm at a place, read
   abbrev pub PartRead : ℕ → Type 0
   PartRead p =
-      let form = formAt digital p in
-      let at = offsetOf digital p in
+      let form = formAt counts p in
+      let at = offsetOf counts p in
       entryAt form bytes at (p + 1) ≡ Read (readingAt form bytes at) (wordAt form bytes at) (at + entrySize form)
 
   -- in a record that passed, each part is read
-  pub all-read : (k place at : ℕ) → at ≡ offsetOf digital place → checkFrom bytes digital k place at ≡ Accepted
+  pub all-read : (k place at : ℕ) → at ≡ offsetOf counts place → checkFrom bytes counts k place at ≡ Accepted
       → (p : ℕ) → place ≤ p → p < place + k → PartRead p
   unfolding checkFrom
   all-read zero place at o e p l h = absurd (omega arith)
   all-read (suc k) place at o e p l h =
-      go (entryAt (formAt digital place) bytes at (place + 1)) refl (λ next n c m. all-read k (place + 1) next n c p m (omega arith))
+      go (entryAt (formAt counts place) bytes at (place + 1)) refl (λ next n c m. all-read k (place + 1) next n c p m (omega arith))
     where
       here-or-later : PartRead place → (place + 1 ≤ p → PartRead p) → (t : Bool) → ltb place p ≡ t → PartRead p
       here-or-later here later true q = later (omega (arith, ltb-true place p q))
       here-or-later here later false q = let same : place ≡ p = omega (arith, ltb-false place p q) in rw same at here
 
-      go : (r : Entry) → entryAt (formAt digital place) bytes at (place + 1) ≡ r
-          → ((next : ℕ) → next ≡ offsetOf digital (place + 1) → checkFrom bytes digital k (place + 1) next ≡ Accepted → place + 1 ≤ p → PartRead p) → PartRead p
+      go : (r : Entry) → entryAt (formAt counts place) bytes at (place + 1) ≡ r
+          → ((next : ℕ) → next ≡ offsetOf counts (place + 1) → checkFrom bytes counts k (place + 1) next ≡ Accepted → place + 1 ≤ p → PartRead p) → PartRead p
       go (Read x word next) r later =
-          let whole = entry-read (formAt digital place) bytes at (place + 1) r in
-          let n : next ≡ offsetOf digital (place + 1) = entry-past (formAt digital place) bytes at (place + 1) r ∙ rw o (offset-next digital place) in
+          let whole = entry-read (formAt counts place) bytes at (place + 1) r in
+          let n : next ≡ offsetOf counts (place + 1) = entry-past (formAt counts place) bytes at (place + 1) r ∙ rw o (offset-next counts place) in
           here-or-later (rw o at (r ∙ sym whole)) (later next n (rw r at e)) (ltb place p) refl
       go (Refused x) r later = let f = rw r at e in let z : _≡_ {A = ℕ} 0 1 = cc in absurd (omega arith)
 
 -- what a record of the right length says of the numbers of alarms
-pub record Whole (digital analog len : ℕ) : Type 0 where
-  pub digital-most : digital ≤ 12
-  pub analog-most : analog ≤ 12
-  pub size : len ≡ recordSize digital analog
+pub record Whole (counts : Counts) (len : ℕ) : Type 0 where
+  pub most : Few counts
+  pub size : len ≡ recordSize counts
 
-pub whole-says : (digital analog len : ℕ) → whole digital analog len ≡ true → Whole digital analog len
-unfolding whole
-whole-says digital analog len h =
-    let size = and-true (leb digital 12 && leb analog 12) (eqb len (recordSize digital analog)) h in
-    let most = most-true digital analog 12 12 refl (size .0) in
-    record {
-      digital-most = most .0;
-      analog-most = most .1;
-      size = eqb-true len (recordSize digital analog) (size .1);
-    }
+pub whole-says : (counts : Counts) (len : ℕ) → areGood counts && eqb len (recordSize counts) ≡ true → Whole counts len
+whole-says counts len h =
+    let both = and-true (areGood counts) (eqb len (recordSize counts)) h in
+    record { most = few counts refl (both .0); size = eqb-true len (recordSize counts) (both .1) }
 
 -- tests that all let a record pass
 passed : (p q : Bool) (r r′ : Refusal) (x : Reply) → cond p (cond q (RefusedBy r) x) (RefusedBy r′) ≡ Accepted → (p ≡ true) × (q ≡ false) × (x ≡ Accepted)
@@ -122,9 +118,9 @@ passed true false r r′ x e = (refl, refl, e)
 passed false q r r′ x e = let z : _≡_ {A = ℕ} 0 1 = cc in absurd (omega arith)
 
 -- what an accepted record says: its length, its time, and that each alarm's part passed
-pub accepted-says : (digital analog last : ℕ) (rec : List ℕ) → checkRecord digital analog last rec ≡ Accepted
-    → Whole digital analog (length rec) × (last ≤ timeOf rec) × (checkFrom rec digital (digital + analog) 0 8 ≡ Accepted)
+pub accepted-says : (counts : Counts) (last : ℕ) (rec : List ℕ) → checkRecord counts last rec ≡ Accepted
+    → Whole counts (length rec) × (last ≤ timeOf rec) × (checkFrom rec counts (inAll counts) 0 8 ≡ Accepted)
 unfolding checkRecord
-accepted-says digital analog last rec e =
-    let t = passed (whole digital analog (length rec)) (ltb (timeOf rec) last) (refusal 8 0) (refusal 7 0) (checkFrom rec digital (digital + analog) 0 8) e in
-    (whole-says digital analog (length rec) (t .0), ltb-false (timeOf rec) last (t .1), t .2)
+accepted-says counts last rec e =
+    let t = passed (areGood counts && eqb (length rec) (recordSize counts)) (ltb (timeOf rec) last) (refusal 8 0) (refusal 7 0) (checkFrom rec counts (inAll counts) 0 8) e in
+    (whole-says counts (length rec) (t .0), ltb-false (timeOf rec) last (t .1), t .2)

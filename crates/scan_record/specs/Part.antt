@@ -1,10 +1,12 @@
 -- A scan record: the time, then for each alarm in number order its reading and a command word.
-use Prim.Native.Nat.{ℕ, _+_, _*_, _-_, min}
+use Prim.Native.Nat.{ℕ, _+_}
 use mathlib.Core.List.{List}
 use lib.Dec.{eqb}
 use lib.ListN.{getD}
 use Rattle.wire.specs.Number.{number}
 use Rattle.wire.specs.Real.{realAt}
+use Rattle.settings.specs.Counts.{sumOf, inFront}
+use Rattle.settings.specs.declared.counts.Counts.{Counts}
 use Rattle.settings.specs.declared.types.Form.{Form}
 use Rattle.settings.specs.declared.types.Form.the-variants.{Digital, Analog}
 use Rattle.settings.specs.declared.types.Reading.{Reading}
@@ -29,10 +31,10 @@ readingAt Analog rec at = Level (realAt rec at)
 abbrev pub wordAt : Form → List ℕ → ℕ → ℕ
 wordAt form rec at = number rec (at + readingSize form) 4
 
--- where the part of the alarm at a place begins
-abbrev pub offsetOf : ℕ → ℕ → ℕ
-offsetOf digital place = 8 + entrySize Digital * min place digital + entrySize Analog * (place - digital)
-
 -- the length of a record
-abbrev pub recordSize : ℕ → ℕ → ℕ
-recordSize digital analog = 8 + entrySize Digital * digital + entrySize Analog * analog
+abbrev pub recordSize : Counts → ℕ
+recordSize counts = 8 + sumOf entrySize counts
+
+-- where the part of the alarm at a place begins: where a record of the alarms in front of it would end
+abbrev pub offsetOf : Counts → ℕ → ℕ
+offsetOf counts place = recordSize (inFront counts place)

@@ -1,65 +1,59 @@
 // The check of a whole scan record.
 ghost use mathlib.Core.Path.{_≡_};
-ghost use Prim.Native.Nat.{_+_, _≤_};
+ghost use mathlib.Core.Bool.{_&&_};
+ghost use lib.Dec.{eqb};
+ghost use Prim.Native.Nat.{_≤_};
 ghost use lib.ListN.{length};
 ghost use Rattle.scan_record.specs.Part.{recordSize};
-ghost use Rattle.settings.specs.Alarm.{formAt};
+ghost use Rattle.settings.specs.Counts.{areGood, inAll};
+ghost use Rattle.settings.specs.Internal.Few.{Few};
 ghost use Rattle.scan_record.specs.Internal.Size.{lengthOf};
-ghost use Rattle.scan_record.specs.Check.{checkFrom, whole, checkRecord};
+ghost use Rattle.scan_record.specs.Check.{checkFrom, checkRecord};
 use crate::entry::Entry;
 use crate::entry::entry_at;
 use crate::part::ANALOG_PART;
 use crate::part::DIGITAL_PART;
 use crate::part::TIME_SIZE;
-use settings::counts::is_bank;
+use settings::counts::Counts;
+use settings::counts::are_good;
+use settings::counts::form_at;
+use settings::counts::in_all;
 use settings::refusals::EARLIER_TIME;
 use settings::refusals::WRONG_LENGTH;
 use settings::reply::Refusal;
 use settings::reply::Reply;
-use settings::types::Form;
 use wire::number::get_u64;
 
-// The form of the alarm at a place.
-pub fn form_at(digital: usize, place: usize) -> Form
-    ensures { λ r. ⌜ r ≡ formAt digital place ⌝ }
+fn length_of(counts: Counts) -> usize
+    requires { ⌜ Few counts ⌝ }
+    ensures { λ r. ⌜ r ≡ recordSize counts ⌝ }
 {
-    if place < digital {
-        Form::Digital
-    } else {
-        Form::Analog
-    }
+    TIME_SIZE + DIGITAL_PART * counts.digital + ANALOG_PART * counts.analog
 }
 
-fn length_of(digital: usize, analog: usize) -> usize
-    requires { ⌜ (digital ≤ 12) × (analog ≤ 12) ⌝ }
-    ensures { λ r. ⌜ r ≡ recordSize digital analog ⌝ }
+// The length of the records of a bank with these counts.
+pub fn record_length(counts: Counts) -> usize
+    ensures { λ r. ⌜ (r ≡ lengthOf counts) × (8 ≤ r) ⌝ }
 {
-    TIME_SIZE + DIGITAL_PART * digital + ANALOG_PART * analog
-}
-
-// The length of the records of a bank with so many alarms.
-pub fn record_length(digital: usize, analog: usize) -> usize
-    ensures { λ r. ⌜ (r ≡ lengthOf digital analog) × (8 ≤ r) ⌝ }
-{
-    if !is_bank(digital, analog) {
+    if !are_good(counts) {
         return TIME_SIZE;
     }
-    length_of(digital, analog)
+    length_of(counts)
 }
 
 // Checks each alarm in number order and answers the first refusal, of a record that has the right length.
-fn check_alarms(bytes: &[u8], digital: usize, analog: usize) -> Reply
-    requires { ⌜ (digital ≤ 12) × (analog ≤ 12) ⌝ }
-    requires { ⌜ length (now bytes) ≡ recordSize digital analog ⌝ }
-    ensures { λ r. ⌜ r ≡ checkFrom (now (bytes .entry)) digital (digital + analog) 0 8 ⌝ }
+fn check_alarms(bytes: &[u8], counts: Counts) -> Reply
+    requires { ⌜ Few counts ⌝ }
+    requires { ⌜ length (now bytes) ≡ recordSize counts ⌝ }
+    ensures { λ r. ⌜ r ≡ checkFrom (now (bytes .entry)) counts (inAll counts) 0 8 ⌝ }
 {
     let mut place = 0;
     let mut at = TIME_SIZE;
     loop {
-        if place == digital + analog {
+        if place == in_all(counts) {
             break Reply::Accepted;
         }
-        match entry_at(bytes, at, form_at(digital, place), place + 1) {
+        match entry_at(bytes, at, form_at(counts, place), place + 1) {
             Entry::Refused(refusal) => break Reply::Refused(refusal),
             Entry::Read(_, _, next) => {
                 place += 1;
@@ -69,18 +63,18 @@ fn check_alarms(bytes: &[u8], digital: usize, analog: usize) -> Reply
     }
 }
 
-// Whether so many alarms are a bank's, and a record of `len` bytes is one of theirs.
-fn is_whole(digital: usize, analog: usize, len: usize) -> bool
-    ensures { λ r. ⌜ r ≡ whole digital analog len ⌝ }
+// Whether a bank may have these counts, and a record of `len` bytes is one of its.
+fn is_whole(counts: Counts, len: usize) -> bool
+    ensures { λ r. ⌜ r ≡ areGood counts && eqb len (recordSize counts) ⌝ }
 {
-    is_bank(digital, analog) & (len == record_length(digital, analog))
+    are_good(counts) & (len == record_length(counts))
 }
 
-// Checks a record against the number of alarms and the time of the last accepted scan.
-pub fn check_record(bytes: &[u8], digital: usize, analog: usize, last: u64) -> Reply
-    ensures { λ r. ⌜ r ≡ checkRecord digital analog last (now (bytes .entry)) ⌝ }
+// Checks a record against a bank's counts and the time of the last accepted scan.
+pub fn check_record(bytes: &[u8], counts: Counts, last: u64) -> Reply
+    ensures { λ r. ⌜ r ≡ checkRecord counts last (now (bytes .entry)) ⌝ }
 {
-    if !is_whole(digital, analog, bytes.len()) {
+    if !is_whole(counts, bytes.len()) {
         return Reply::Refused(Refusal {
             number: WRONG_LENGTH,
             place: 0,
@@ -92,5 +86,5 @@ pub fn check_record(bytes: &[u8], digital: usize, analog: usize, last: u64) -> R
             place: 0,
         });
     }
-    check_alarms(bytes, digital, analog)
+    check_alarms(bytes, counts)
 }

@@ -1,28 +1,19 @@
 -- The settings of an alarm, and settings without alarms.
 use Prim.Native.Nat.{ℕ}
-use mathlib.Core.Bool.{Bool, cond}
+use mathlib.Core.Bool.{Bool}
 use mathlib.Core.List.{List}
-use lib.Dec.{ltb}
 use lib.ListN.{replicate}
 use Rattle.wire.specs.Bits.{bit}
+use Rattle.settings.specs.Counts.{allMost}
 use Rattle.settings.specs.declared.types.Alarm.{Alarm}
 use Rattle.settings.specs.declared.types.Kind.{Kind}
 use Rattle.settings.specs.declared.types.Kind.the-variants.{Digital, Analog}
-use Rattle.settings.specs.declared.types.Form.{Form}
-use Rattle.settings.specs.declared.types.Form.the-variants.{Digital as DigitalForm, Analog as AnalogForm}
 use Rattle.settings.specs.declared.types.Settings.{Settings}
 
 -- AckRequired: bit 1 of a digital alarm's flags, bit 4 of an analog one's
 abbrev pub ackRequired : Kind → ℕ → Bool
 ackRequired (Digital severity) flags = bit flags 1
 ackRequired (Analog limits severities period) flags = bit flags 4
-
--- how many alarms a section has at most, and a bank
-abbrev pub eachMost : ℕ
-eachMost = 12
-
-abbrev pub allMost : ℕ
-allMost = 24
 
 -- what stands in a place that no alarm has
 abbrev pub blank : Alarm
@@ -33,8 +24,4 @@ blanks = replicate allMost blank
 
 -- a bank without alarms
 unfoldable pub empty : Settings
-empty = record { digital = 0; analog = 0; alarms = blanks }
-
--- the form of the alarm at a place: the digital alarms come first
-abbrev pub formAt : ℕ → ℕ → Form
-formAt digital place = cond (ltb place digital) DigitalForm AnalogForm
+empty = record { counts = record { digital = 0; analog = 0 }; alarms = blanks }

@@ -1,4 +1,5 @@
 pub mod Refusals
+pub mod Counts
 pub mod Alarm
 pub mod Condition
 pub mod Numbers

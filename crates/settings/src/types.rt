@@ -2,6 +2,7 @@
 ghost use mathlib.Core.Path.{_≡_};
 ghost use Rattle.settings.specs.Alarm.{blank, blanks, empty};
 use crate::counts::ALARMS;
+use crate::counts::Counts;
 
 // The limits, Deadband and rate limits of an analog alarm, which travel together.
 pub struct Limits {
@@ -57,8 +58,7 @@ pub enum Reading {
 // The settings of a bank: the digital alarms, then the analog ones, in number order from 1 at place 0. The rest of the
 // array is blank.
 pub struct Settings {
-    pub digital: usize,
-    pub analog: usize,
+    pub counts: Counts,
     pub alarms: [Alarm; ALARMS],
 }
 
@@ -84,10 +84,10 @@ pub fn blank_alarms() -> [Alarm; ALARMS]
 pub fn no_alarms() -> Settings
     ensures { λ r. ⌜ r ≡ empty ⌝ }
 {
-    let alarms = blank_alarms();
-    Settings {
+    let counts = Counts {
         digital: 0,
         analog: 0,
-        alarms,
-    }
+    };
+    let alarms = blank_alarms();
+    Settings { counts, alarms }
 }

@@ -9,10 +9,11 @@ use native.Mathlib.Omega.{arith}
 use lib.ListN.{length, length-append}
 use lib.Seq.{sets}
 use Rattle.wire.proofs.Laws.{sets-append}
-use Rattle.settings.specs.Alarm.{formAt}
+use Rattle.settings.specs.Counts.{formAt}
+use Rattle.settings.specs.declared.counts.Counts.{Counts}
 use Rattle.settings.specs.declared.types.Form.{Form}
 use Rattle.settings.specs.declared.types.Form.the-variants.{Digital, Analog}
-use Rattle.layout.specs.Internal.Block.{digitalIn, alarmOn}
+use Rattle.layout.specs.Internal.Block.{countsIn, alarmOn}
 use Rattle.scan_record.specs.Part.{timeOf, readingAt, wordAt}
 use Rattle.event.specs.Event.{logBytes}
 use Rattle.event.proofs.Logs.{log-append}
@@ -26,11 +27,11 @@ use Rattle.sweep.proofs.Loops.{not-yet, stepped-length}
 
 -- ---- the forms of the places
 
-pub digital-places : (digital : ℕ) → HaveForm digital 0 digital Digital
-digital-places digital p l h = ap (λ (b : Bool). cond b Digital Analog) (lt-ltb p digital (omega arith))
+pub digital-places : (counts : Counts) → HaveForm counts 0 (counts .digital) Digital
+digital-places counts p l h = ap (λ (b : Bool). cond b Digital Analog) (lt-ltb p (counts .digital) (omega arith))
 
-pub analog-places : (digital n : ℕ) → HaveForm digital digital n Analog
-analog-places digital n p l h = ap (λ (b : Bool). cond b Digital Analog) (le-ltb p digital l)
+pub analog-places : (counts : Counts) → HaveForm counts (counts .digital) (counts .analog) Analog
+analog-places counts p l h = ap (λ (b : Bool). cond b Digital Analog) (le-ltb p (counts .digital) l)
 
 module _ (w : Words) (rec : List ℕ) (d : ℕ) where
   -- the words after d alarms
@@ -41,7 +42,7 @@ module _ (w : Words) (rec : List ℕ) (d : ℕ) where
   pub later-step : (p : ℕ) → d ≤ p → stepOn half rec p ≡ stepOn w rec p
   unfolding stepOn placeStep
   later-step p h =
-      let form = formAt (digitalIn (w .settings)) p in
+      let form = formAt (countsIn (w .settings)) p in
       ap (λ (s : State). stepOf (alarmOn (w .settings) p) s (readingAt form rec (partAt w rec p)) (wordAt form rec (partAt w rec p)) (timeOf rec))
       (not-yet w rec 0 d p (omega arith))
 

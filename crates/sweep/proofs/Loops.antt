@@ -8,10 +8,11 @@ use native.Mathlib.Omega.{arith}
 use lib.ListN.{length, length-append}
 use lib.Seq.{sets, length-sets}
 use Rattle.wire.proofs.Laws.{sets-append}
-use Rattle.settings.specs.Alarm.{formAt, ackRequired}
+use Rattle.settings.specs.Counts.{formAt}
+use Rattle.settings.specs.Alarm.{ackRequired}
 use Rattle.settings.specs.declared.types.Form.{Form}
 use Rattle.layout.specs.Internal.Words.{alarmIn}
-use Rattle.layout.specs.Internal.Block.{alarmAt, digitalIn, alarmOn}
+use Rattle.layout.specs.Internal.Block.{alarmAt, countsIn, alarmOn}
 use Rattle.scan_record.specs.Part.{timeOf, readingAt, wordAt}
 use Rattle.event.specs.Event.{logBytes}
 use Rattle.event.proofs.Logs.{log-append}
@@ -71,7 +72,7 @@ module _ (w : Words) (rec : List ℕ) where
 
   -- ---- the alarm at the next place
 
-  module _ (first n : ℕ) {form : Form} {at time : ℕ} {states : List ℕ} (f : formAt (digitalIn (w .settings)) (first + n) ≡ form)
+  module _ (first n : ℕ) {form : Form} {at time : ℕ} {states : List ℕ} (f : formAt (countsIn (w .settings)) (first + n) ≡ form)
       (o : at ≡ partAt w rec (first + n)) (t : time ≡ timeOf rec) (s : states ≡ steppedFrom w rec first n) where
     here-is : placeStep form (w .settings) states rec at (first + n) time ≡ stepOn w rec (first + n)
     unfolding placeStep stepOn

@@ -11,14 +11,14 @@ use Rattle.settings.specs.Internal.Reals.{realAnalog}
 use Rattle.wire.specs.Bits.{bit}
 use Rattle.wire.specs.Number.{number}
 use Rattle.wire.specs.Internal.Places.{wordBits}
-use Rattle.settings.specs.Alarm.{formAt}
+use Rattle.settings.specs.Counts.{formAt}
 use Rattle.settings.specs.Numbers.{reals}
 use Rattle.settings.specs.declared.types.Alarm.{Alarm}
 use Rattle.settings.specs.declared.types.Form.{Form}
 use Rattle.settings.specs.declared.types.Form.the-variants.{Digital, Analog}
 use Rattle.settings.specs.declared.types.Reading.{Reading}
 use Rattle.layout.specs.Internal.Words.{alarmIn}
-use Rattle.layout.specs.Internal.Block.{alarmAt, digitalIn}
+use Rattle.layout.specs.Internal.Block.{alarmAt, countsIn}
 use Rattle.scan_record.specs.Part.{timeOf, readingAt, wordAt}
 use Rattle.event.specs.Event.{logBytes}
 use Rattle.state.specs.Internal.Held.{lookDigital, realPatterns, lookAnalog}
@@ -67,7 +67,7 @@ module _ (settings states rec : List ℕ) (at p time : ℕ) where
 -- of the step at a place
 pub small-on : (w : Words) (rec : List ℕ) (p : ℕ) → Small (stepOn w rec p .state)
 unfolding stepOn
-small-on w rec p = small (w .settings) (w .states) rec (partAt w rec p) p (timeOf rec) (formAt (digitalIn (w .settings)) p)
+small-on w rec p = small (w .settings) (w .states) rec (partAt w rec p) p (timeOf rec) (formAt (countsIn (w .settings)) p)
 
 -- the starts among the words
 pub starts-in : (ws : List ℕ) (at : ℕ) → startsIn ws (at + 5) ≡ startsOf (stateIn ws at)

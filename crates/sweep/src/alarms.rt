@@ -4,14 +4,17 @@ ghost use Prim.Native.Nat.{_+_, _*_, _≤_};
 ghost use lib.ListN.{length};
 ghost use lib.Seq.{sets};
 ghost use Rattle.layout.specs.Internal.Sizes.{marksSize, settingsSize, statesSize};
-ghost use Rattle.settings.specs.Alarm.{allMost};
-ghost use Rattle.layout.specs.Internal.Block.{digitalIn};
+ghost use Rattle.settings.specs.Counts.{allMost};
+ghost use Rattle.layout.specs.Internal.Block.{countsIn};
 ghost use Rattle.scan_record.specs.Part.{timeOf, offsetOf};
 ghost use Rattle.scan_record.specs.Internal.Size.{entrySize};
 ghost use Rattle.bank.specs.Internal.Words.{wordsIn};
-ghost use Rattle.sweep.specs.Internal.Sweep.{HaveForm, Ready, steppedFrom, markedFrom, logFrom, logAfter, wordsAfter};
+ghost use Rattle.sweep.specs.Internal.Sweep.{HaveForm, Ready, mostBytes, steppedFrom, markedFrom, logFrom, logAfter, wordsAfter};
 use crate::place::step_place;
+use scan_record::part::DIGITAL_PART;
+use scan_record::part::TIME_SIZE;
 use scan_record::part::part_size;
+use settings::counts::Counts;
 use settings::types::Form;
 use wire::number::get_u64;
 
@@ -31,8 +34,8 @@ fn scan_form(
     time: u64,
 ) -> usize
     requires { ⌜ (first + count ≤ allMost) × (length (now settings) ≡ settingsSize) × (length (now states) ≡ statesSize) × (length (now marks) ≡ marksSize) ⌝ }
-    requires { ⌜ (time ≡ timeOf (now bytes)) × (begin ≡ offsetOf (digitalIn (now settings)) first) × (begin + entrySize form * count ≤ length (now bytes)) ⌝ }
-    requires { ⌜ HaveForm (digitalIn (now settings)) first count form ⌝ }
+    requires { ⌜ (time ≡ timeOf (now bytes)) × (begin ≡ offsetOf (countsIn (now settings)) first) × (begin + entrySize form * count ≤ length (now bytes)) ⌝ }
+    requires { ⌜ HaveForm (countsIn (now settings)) first count form ⌝ }
     requires { ⌜ start + length (logFrom (wordsIn (now settings) (now states) (now marks)) (now bytes) first count) ≤ length (now out) ⌝ }
     ensures { λ r. ⌜ r ≡ start + length
         (logFrom (wordsIn (now (settings .entry)) (now (states .entry)) (now (marks .entry))) (now (bytes .entry)) first count) ⌝ }
@@ -73,11 +76,10 @@ pub fn scan_alarms(
     marks: &mut [u64],
     bytes: &[u8],
     out: &mut [u8],
-    digital: usize,
-    analog: usize,
+    counts: Counts,
 ) -> usize
-    requires { ⌜ Ready (wordsIn (now settings) (now states) (now marks)) (now bytes) digital analog ⌝ }
-    requires { ⌜ 80 * digital + 240 * analog ≤ length (now out) ⌝ }
+    requires { ⌜ Ready (wordsIn (now settings) (now states) (now marks)) (now bytes) counts ⌝ }
+    requires { ⌜ mostBytes counts ≤ length (now out) ⌝ }
     ensures { λ r. ⌜ r ≡ length (logAfter (wordsIn (now (settings .entry)) (now (states .entry)) (now (marks .entry))) (now (bytes .entry))) ⌝ }
     ensures { λ _. ⌜ now (states .exit) ≡ wordsAfter (wordsIn (now (settings .entry)) (now (states .entry)) (now (marks .entry)))
         (now (bytes .entry)) .states ⌝ }
@@ -91,12 +93,12 @@ pub fn scan_alarms(
         states,
         marks,
         bytes,
-        8,
+        TIME_SIZE,
         out,
         0,
         Form::Digital,
         0,
-        digital,
+        counts.digital,
         time,
     );
     let used = scan_form(
@@ -104,12 +106,12 @@ pub fn scan_alarms(
         states,
         marks,
         bytes,
-        8 + 5 * digital,
+        TIME_SIZE + DIGITAL_PART * counts.digital,
         out,
         half,
         Form::Analog,
-        digital,
-        analog,
+        counts.digital,
+        counts.analog,
         time,
     );
     states[0] = time;

@@ -4,7 +4,7 @@ ghost use Prim.Native.Nat.{_+_, _≤_, _<_};
 ghost use lib.ListN.{length};
 ghost use lib.Seq.{sets};
 ghost use Rattle.layout.specs.Internal.Sizes.{marksSize, settingsSize, statesSize};
-ghost use Rattle.settings.specs.Alarm.{allMost};
+ghost use Rattle.settings.specs.Counts.{allMost};
 ghost use Rattle.scan_record.specs.Internal.Size.{entrySize};
 ghost use Rattle.sweep.specs.Internal.Sweep.{stateLog, stateMarks, placeStep, placeStates, placeLog, placeMarks};
 use analog::step::analog_step;

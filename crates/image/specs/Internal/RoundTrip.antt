@@ -8,5 +8,5 @@ use Rattle.image.specs.Internal.Write.{imageOf, sizeOfImage}
 
 -- the image has the length of these settings' and is what is written back
 pub record RoundTrip (image : List ℕ) (s : Settings) : Type 0 where
-  pub size : length image ≡ sizeOfImage (s .digital) (s .analog)
+  pub size : length image ≡ sizeOfImage (s .counts)
   pub back : imageOf s ≡ image

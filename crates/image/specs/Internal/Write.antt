@@ -1,5 +1,5 @@
 -- The image of settings, and what the writer leaves in a lent buffer.
-use Prim.Native.Nat.{ℕ, _+_, _*_}
+use Prim.Native.Nat.{ℕ, _+_}
 use mathlib.Core.List.{List, [], _∷_, _++_}
 use mathlib.Core.Bool.{Bool, _&&_, cond}
 use lib.Dec.{leb}
@@ -10,7 +10,9 @@ use Rattle.wire.specs.Internal.Words.{words}
 use Rattle.settings.specs.Refusals.{refusal}
 use Rattle.settings_record.specs.Record.{sizeOf}
 use Rattle.layout.specs.Internal.Block.{noBank}
-use Rattle.settings.specs.Alarm.{blanks, eachMost}
+use Rattle.settings.specs.Counts.{areGood, sumOf}
+use Rattle.settings.specs.Alarm.{blanks}
+use Rattle.settings.specs.declared.counts.Counts.{Counts}
 use Rattle.layout.specs.Internal.Words.{alarmIn}
 use Rattle.layout.specs.Internal.Block.{placed, alarmAt, settingsIn, isBlock}
 use Rattle.settings.specs.declared.types.Limits.{Limits}
@@ -61,23 +63,25 @@ sectionBytes form first n alarms = n ∷ recordsBytes form (slice first (first +
 
 -- both sections in order
 unfoldable pub imageOf : Settings → List ℕ
-imageOf s = sectionBytes DigitalForm 0 (s .digital) (s .alarms) ++ sectionBytes AnalogForm (s .digital) (s .analog) (s .alarms)
+imageOf s =
+    sectionBytes DigitalForm 0 (s .counts .digital) (s .alarms)
+    ++ sectionBytes AnalogForm (s .counts .digital) (s .counts .analog) (s .alarms)
 
 -- the image's length: two counts of one byte, and a record for each alarm
-abbrev pub sizeOfImage : ℕ → ℕ → ℕ
-sizeOfImage d a = 2 + sizeOf DigitalForm * d + sizeOf AnalogForm * a
+abbrev pub sizeOfImage : Counts → ℕ
+sizeOfImage counts = 2 + sumOf sizeOf counts
 
 -- the buffer is long enough. (Counts over 12 stand in no accepted settings, and have no image)
-unfoldable pub hasRoom : ℕ → ℕ → ℕ → Bool
-hasRoom d a n = leb d eachMost && leb a eachMost && leb (sizeOfImage d a) n
+unfoldable pub hasRoom : Counts → ℕ → Bool
+hasRoom counts n = areGood counts && leb (sizeOfImage counts) n
 
 -- the image's length, or 13
 unfoldable pub writtenOf : Settings → ℕ → Written
-writtenOf s n = cond (hasRoom (s .digital) (s .analog) n) (Length (length (imageOf s))) (Refused (refusal 13 0))
+writtenOf s n = cond (hasRoom (s .counts) n) (Length (length (imageOf s))) (Refused (refusal 13 0))
 
 -- the image in front of what stood behind it; a refusal leaves every byte
 unfoldable pub imageBuffer : Settings → List ℕ → List ℕ
-imageBuffer s out = cond (hasRoom (s .digital) (s .analog) (length out)) (imageOf s ++ drop (length (imageOf s)) out) out
+imageBuffer s out = cond (hasRoom (s .counts) (length out)) (imageOf s ++ drop (length (imageOf s)) out) out
 
 -- ---- the writer reads a settings block
 

@@ -8,7 +8,9 @@ use lib.ListN.{length, getD, set, replicate}
 use Rattle.layout.specs.Internal.Sizes.{settingsSize}
 use Rattle.settings.specs.Refusals.{refusal}
 use Rattle.settings.specs.declared.reply.Refusal.{Refusal}
-use Rattle.settings.specs.Alarm.{blank, blanks, formAt}
+use Rattle.settings.specs.Counts.{inAll, formAt}
+use Rattle.settings.specs.Alarm.{blank, blanks}
+use Rattle.settings.specs.declared.counts.Counts.{Counts}
 use Rattle.settings.specs.declared.types.Alarm.{Alarm}
 use Rattle.settings.specs.declared.types.Settings.{Settings}
 use Rattle.layout.specs.Internal.Words.{alarmIn, alarmWords, formOf}
@@ -21,9 +23,9 @@ layoutWord = 0x4D45494647555231
 abbrev pub alarmAt : ℕ → ℕ
 alarmAt place = 4 + 8 * place
 
--- the layout word, the numbers of digital and of analog alarms, and room for a third number
-abbrev pub headWords : ℕ → ℕ → List ℕ
-headWords digital analog = layoutWord ∷ digital ∷ analog ∷ 0 ∷ []
+-- the layout word, the counts, and room for a third one
+abbrev pub headWords : Counts → List ℕ
+headWords counts = layoutWord ∷ counts .digital ∷ counts .analog ∷ 0 ∷ []
 
 -- alarms one after the other
 unfoldable pub alarmsWords : List Alarm → List ℕ
@@ -32,7 +34,7 @@ alarmsWords (a ∷ rest) = alarmWords a ++ alarmsWords rest
 
 -- the whole block: the head, the 24 places of settings, and 12 further places of 0
 unfoldable pub settingsWords : Settings → List ℕ
-settingsWords s = headWords (s .digital) (s .analog) ++ (alarmsWords (s .alarms) ++ replicate 96 0)
+settingsWords s = headWords (s .counts) ++ (alarmsWords (s .alarms) ++ replicate 96 0)
 
 -- the words say the first n alarms, each read by its own form
 abbrev pub Says : List Alarm → ℕ → List ℕ → Type 0
@@ -46,23 +48,20 @@ module _ {X : Type 0} where
   placed f zero xs = xs
   placed f (suc n) xs = set (placed f n xs) n (f n)
 
-abbrev pub digitalIn : List ℕ → ℕ
-digitalIn ws = getD ws 1 0
-
-abbrev pub analogIn : List ℕ → ℕ
-analogIn ws = getD ws 2 0
+abbrev pub countsIn : List ℕ → Counts
+countsIn ws = record { digital = getD ws 1 0; analog = getD ws 2 0 }
 
 -- how many alarms there are
 abbrev pub countIn : List ℕ → ℕ
-countIn ws = digitalIn ws + analogIn ws
+countIn ws = inAll (countsIn ws)
 
 -- the alarm at a place, by the form that the place has
 abbrev pub alarmOn : List ℕ → ℕ → Alarm
-alarmOn ws p = alarmIn (formAt (digitalIn ws) p) ws (alarmAt p)
+alarmOn ws p = alarmIn (formAt (countsIn ws) p) ws (alarmAt p)
 
 -- the places behind the last alarm are blank
 unfoldable pub settingsIn : List ℕ → Settings
-settingsIn ws = record { digital = digitalIn ws; analog = analogIn ws; alarms = placed (alarmOn ws) (countIn ws) blanks }
+settingsIn ws = record { counts = countsIn ws; alarms = placed (alarmOn ws) (countIn ws) blanks }
 
 -- a block that a call wrote: its length is right, and its first word says this layout
 abbrev pub isBlock : List ℕ → Bool

@@ -1,9 +1,11 @@
 -- The report of the alarm with a number.
-use Prim.Native.Nat.{ℕ, _+_, _-_, _*_}
+use Prim.Native.Nat.{ℕ, _-_, _*_}
 use mathlib.Core.Bool.{Bool, _&&_, cond}
 use lib.Dec.{leb}
 use lib.ListN.{getD}
-use Rattle.settings.specs.Alarm.{blank, eachMost}
+use Rattle.settings.specs.Counts.{areGood, inAll}
+use Rattle.settings.specs.Alarm.{blank}
+use Rattle.settings.specs.declared.counts.Counts.{Counts}
 use Rattle.settings.specs.declared.reply.Reply.the-variants.{Accepted}
 use Rattle.state.specs.Internal.Held.{freshState}
 use Rattle.bank.specs.Internal.Bank.{Bank}
@@ -15,8 +17,8 @@ use Rattle.report.specs.Internal.Whole.{wholeOf}
 use Rattle.report.specs.declared.report.AlarmReport.{AlarmReport}
 
 -- alarms are numbered from 1. (Counts over 12 stand in no bank that a call handed back)
-unfoldable pub isThere : ℕ → ℕ → ℕ → Bool
-isThere digital analog n = leb digital eachMost && leb analog eachMost && (leb 1 n && leb n (digital + analog))
+unfoldable pub isThere : Counts → ℕ → Bool
+isThere counts n = areGood counts && (leb 1 n && leb n (inAll counts))
 
 -- the alarm at a place
 unfoldable pub reportAt : Bank → ℕ → AlarmReport
@@ -29,7 +31,7 @@ reportAt b place =
     }
 
 unfoldable pub reportOf : Bank → ℕ → AlarmReport
-reportOf b n = cond (isThere (b .settings .digital) (b .settings .analog) n) (reportAt b (n - 1)) noReport
+reportOf b n = cond (isThere (b .settings .counts) n) (reportAt b (n - 1)) noReport
 
 -- from words that a caller lends: 42 where they hold no bank
 unfoldable pub reportIn : Words → ℕ → AlarmReport

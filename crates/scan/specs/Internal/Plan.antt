@@ -4,7 +4,9 @@ use mathlib.Core.List.{List, [], _++_}
 use lib.Count.{ones}
 use lib.ListN.{getD, replicate}
 use Rattle.layout.specs.Internal.Block.{placed}
-use Rattle.settings.specs.Alarm.{blank, formAt}
+use Rattle.settings.specs.Counts.{inAll, formAt}
+use Rattle.settings.specs.Alarm.{blank}
+use Rattle.settings.specs.declared.counts.Counts.{Counts}
 use Rattle.settings.specs.declared.types.Alarm.{Alarm}
 use Rattle.settings.specs.declared.types.Form.{Form}
 use Rattle.state.specs.Internal.Held.{freshState}
@@ -26,28 +28,28 @@ unfoldable pub stepPart : Form → List ℕ → ℕ → ℕ → Alarm → State 
 stepPart form rec at number a s time = stepEntry (entryAt form rec at number) a s time
 
 -- the alarm at a place
-abbrev pub stepAt : List ℕ → ℕ → List Alarm → List State → ℕ → ℕ → Stepped
-stepAt rec digital alarms states time place =
-    stepPart (formAt digital place) rec (offsetOf digital place) (place + 1) (getD alarms place blank) (getD states place freshState) time
+abbrev pub stepAt : List ℕ → Counts → List Alarm → List State → ℕ → ℕ → Stepped
+stepAt rec counts alarms states time place =
+    stepPart (formAt counts place) rec (offsetOf counts place) (place + 1) (getD alarms place blank) (getD states place freshState) time
 
--- the states after the scan, of n alarms
-abbrev pub statesAfter : List ℕ → ℕ → ℕ → List Alarm → List State → ℕ → List State
-statesAfter rec digital n alarms states time = placed (λ p. stepAt rec digital alarms states time p .state) n states
+-- the states after the scan
+abbrev pub statesAfter : List ℕ → Counts → List Alarm → List State → ℕ → List State
+statesAfter rec counts alarms states time = placed (λ p. stepAt rec counts alarms states time p .state) (inAll counts) states
 
--- the event words of n alarms, laid over what stood there
-abbrev pub wordsAfter : List ℕ → ℕ → ℕ → List Alarm → List State → ℕ → List ℕ → List ℕ
-wordsAfter rec digital n alarms states time words = placed (λ p. stepAt rec digital alarms states time p .events) n words
+-- the event words of the alarms, laid over what stood there
+abbrev pub wordsAfter : List ℕ → Counts → List Alarm → List State → ℕ → List ℕ → List ℕ
+wordsAfter rec counts alarms states time words = placed (λ p. stepAt rec counts alarms states time p .events) (inAll counts) words
 
 -- the states after the scan, and the event word of each alarm
 pub record Plan : Type 0 where
   pub states : List State
   pub events : List ℕ
 
-unfoldable pub planOf : List ℕ → ℕ → ℕ → List Alarm → List State → ℕ → Plan
-planOf rec digital n alarms states time =
+unfoldable pub planOf : List ℕ → Counts → List Alarm → List State → ℕ → Plan
+planOf rec counts alarms states time =
     record {
-      states = statesAfter rec digital n alarms states time;
-      events = wordsAfter rec digital n alarms states time (replicate 24 0);
+      states = statesAfter rec counts alarms states time;
+      events = wordsAfter rec counts alarms states time (replicate 24 0);
     }
 
 -- how many events the first n words stand for

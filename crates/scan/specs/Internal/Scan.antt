@@ -1,9 +1,10 @@
 -- One scan of a bank: the answer, the bank after it, and the lent event buffer.
-use Prim.Native.Nat.{ℕ, _+_, _*_}
+use Prim.Native.Nat.{ℕ, _*_}
 use mathlib.Core.List.{List, _++_}
 use mathlib.Core.Bool.{Bool, cond}
 use lib.Dec.{ltb}
 use lib.ListN.{length, getD, drop}
+use Rattle.settings.specs.Counts.{inAll}
 use Rattle.settings.specs.Refusals.{refusal}
 use Rattle.settings.specs.declared.reply.Refusal.{Refusal}
 use Rattle.settings.specs.declared.reply.Reply.{Reply}
@@ -31,15 +32,15 @@ ifAccepted (Refused r) new old = old
 
 -- 7, 8, then each alarm in number order 9, 10, 11
 abbrev pub checkOf : Bank → List ℕ → Reply
-checkOf b rec = checkRecord (b .settings .digital) (b .settings .analog) (b .time) rec
+checkOf b rec = checkRecord (b .settings .counts) (b .time) rec
 
 -- how many alarms the bank has
 abbrev pub alarmsOf : Bank → ℕ
-alarmsOf b = b .settings .digital + b .settings .analog
+alarmsOf b = inAll (b .settings .counts)
 
 -- the states after a checked record, and the event words
 abbrev pub planFor : Bank → List ℕ → Plan
-planFor b rec = planOf rec (b .settings .digital) (alarmsOf b) (b .settings .alarms) (b .states) (timeOf rec)
+planFor b rec = planOf rec (b .settings .counts) (b .settings .alarms) (b .states) (timeOf rec)
 
 -- when the rows of the conditions of the alarm at a place began, after a checked record
 abbrev pub startsAfter : Bank → List ℕ → ℕ → List ℕ

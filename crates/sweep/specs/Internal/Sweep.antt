@@ -7,11 +7,15 @@ use lib.Seq.{sets}
 use Rattle.layout.specs.Internal.Sizes.{marksSize, settingsSize, statesSize}
 use Rattle.wire.specs.Bits.{bit}
 use Rattle.wire.specs.Internal.Places.{suppressedFlag, wordBits}
-use Rattle.settings.specs.Alarm.{ackRequired, formAt}
+use Rattle.settings.specs.Counts.{sumOf, formAt}
+use Rattle.settings.specs.Alarm.{ackRequired}
+use Rattle.settings.specs.Internal.Few.{Few}
+use Rattle.settings.specs.declared.counts.Counts.{Counts}
 use Rattle.settings.specs.declared.types.Alarm.{Alarm}
 use Rattle.settings.specs.declared.types.Form.{Form}
+use Rattle.settings.specs.declared.types.Form.the-variants.{Digital, Analog}
 use Rattle.layout.specs.Internal.Words.{alarmIn}
-use Rattle.layout.specs.Internal.Block.{alarmAt, digitalIn, analogIn, countIn, alarmOn}
+use Rattle.layout.specs.Internal.Block.{alarmAt, countsIn, countIn, alarmOn}
 use Rattle.scan_record.specs.Part.{timeOf, readingAt, wordAt, offsetOf, recordSize}
 use Rattle.event.specs.Event.{Event, logBytes}
 use Rattle.event.specs.Internal.Bits.{eventsOf}
@@ -29,8 +33,8 @@ abbrev pub alarmMarks : ℕ → Alarm → State → ℕ → ℕ → List ℕ →
 alarmMarks p a s word time marks = markAlarm (ackRequired (a .kind) (a .flags)) (startsOf s) word time (25 * p) marks
 
 -- the alarms from a place on have a form
-abbrev pub HaveForm : ℕ → ℕ → ℕ → Form → Type 0
-HaveForm digital first count form = (p : ℕ) → first ≤ p → p < first + count → formAt digital p ≡ form
+abbrev pub HaveForm : Counts → ℕ → ℕ → Form → Type 0
+HaveForm counts first count form = (p : ℕ) → first ≤ p → p < first + count → formAt counts p ≡ form
 
 -- ---- the alarm at a place, by its form
 
@@ -63,23 +67,29 @@ module _ (form : Form) (settings states rec : List ℕ) (at p time : ℕ) where
 -- ---- all alarms
 
 -- a bank's words, and a record of its length
-pub record Ready (w : Words) (rec : List ℕ) (digital analog : ℕ) : Type 0 where
-  pub digital-most : digital ≤ 12
-  pub analog-most : analog ≤ 12
+pub record Ready (w : Words) (rec : List ℕ) (counts : Counts) : Type 0 where
+  pub most : Few counts
   pub settings-long : length (w .settings) ≡ settingsSize
   pub states-long : length (w .states) ≡ statesSize
   pub marks-long : length (w .marks) ≡ marksSize
-  pub digital-is : digital ≡ digitalIn (w .settings)
-  pub analog-is : analog ≡ analogIn (w .settings)
-  pub record-long : length rec ≡ recordSize digital analog
+  pub counts-are : counts ≡ countsIn (w .settings)
+  pub record-long : length rec ≡ recordSize counts
+
+-- how many events an alarm has at most in a scan, and how many bytes the events of all
+abbrev pub mostEvents : Form → ℕ
+mostEvents Digital = 5
+mostEvents Analog = 15
+
+abbrev pub mostBytes : Counts → ℕ
+mostBytes counts = 16 * sumOf mostEvents counts
 
 module _ (w : Words) (rec : List ℕ) where
   abbrev pub partAt : ℕ → ℕ
-  partAt p = offsetOf (digitalIn (w .settings)) p
+  partAt p = offsetOf (countsIn (w .settings)) p
 
   -- the alarm at a place, stepped
   unfoldable pub stepOn : ℕ → Stepped
-  stepOn p = placeStep (formAt (digitalIn (w .settings)) p) (w .settings) (w .states) rec (partAt p) p (timeOf rec)
+  stepOn p = placeStep (formAt (countsIn (w .settings)) p) (w .settings) (w .states) rec (partAt p) p (timeOf rec)
 
   -- its events
   unfoldable pub eventsOn : ℕ → List Event

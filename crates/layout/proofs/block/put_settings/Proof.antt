@@ -9,7 +9,7 @@ use Rattle.layout.proofs.block.put_settings.Tie as tie
 
 returns : tie.Need-returns
 returns c =
-    let start = c .before .before .before .before .before .before .before .before .before .before .before .before .before .before in
+    let start = c .before .before .before .before .before .before .before .before .before .before .before .before .before .before .before in
     let s = start .args .settings in
     let p = c .before .before .put-alarms .ensures in
     let z = c .before .before .before .before .before .before .before .before .before .before .clear .ensures ∙ ap (λ (k : ℕ). replicate k 0) (start .pre) in

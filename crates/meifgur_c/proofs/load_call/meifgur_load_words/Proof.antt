@@ -2,11 +2,10 @@
 use borrow.Author.Needs.{needs}
 use borrow.Author.Tests.{lt-ltb, le-ltb}
 use denote.Ref.{now}
-use mathlib.Core.Path.{_≡_, refl, ap, _∙_}
-use mathlib.Core.List.{List}
-use Prim.Native.Nat.{ℕ}
-use lib.ListN.{length, getD}
+use mathlib.Core.Path.{refl, ap, _∙_}
+use lib.ListN.{length}
 use lib.Seq.{sets}
+use Rattle.layout.specs.Internal.Block.{countsIn}
 use Rattle.meifgur_c.specs.Calls.{replyNumber, loadFields}
 use Rattle.meifgur_c.proofs.load_call.meifgur_load_words.Statement.{statement}
 use Rattle.meifgur_c.proofs.load_call.meifgur_load_words.Tie as tie
@@ -16,17 +15,16 @@ returns c = rw (lt-ltb (length (now (c .before .before .before .before .before .
 
 returns-2 : tie.Need-returns-2
 returns-2 c =
-    let half = c .before .before .before .before .before .before .before .before .before .before .before .before in
-    let a = half .before .before .before .before .before .before .before .before .before .before .before .before .args in
-    let e = c .before .before .before .before .before .before .before .before .before .before .before .before .before .before .load .ensures in
+    let counted = c .before .before .before .before in
+    let loaded = counted .before .before .before .before .before .before .before .before in
+    let test = loaded .before .before .before .before in
+    let a = test .before .before .before .before .before .before .args in
+    let e = loaded .load .ensures in
     let f = c .before .before .put-loaded .ensures in
-    let d = c .before .before .before .before .before .before .word-at .ensures ∙ ap (λ (l : List ℕ). getD l 1 0) (e .1 .0) in
-    let n = c .before .before .before .before .word-at2 .ensures ∙ ap (λ (l : List ℕ). getD l 2 0) (e .1 .0) in
-    let half = c .before .before .before .before .before .before .before .before .before in
-    let test = half .before .before .before .before .before .before .before .before .before in
+    let n = counted .counts-of .ensures ∙ ap countsIn (e .1 .0) in
     rw (le-ltb (length (now (a .answer))) 4 (test .if1 .left)) (
       f .0 ∙ ap replyNumber (e .0),
-      (e .1 .0, (e .1 .1 .0, (e .1 .1 .1, f .1 ∙ (λ i. sets (now (a .answer)) 0 (loadFields (e .0 i) (d i) (n i)))))),
+      (e .1 .0, (e .1 .1 .0, (e .1 .1 .1, f .1 ∙ (λ i. sets (now (a .answer)) 0 (loadFields (e .0 i) (n i)))))),
     )
 
 pub meifgur-load-words-spec : {M : Type 1} → statement M
@@ -34,7 +32,6 @@ meifgur-load-words-spec =
     tie.close
     (tie.spec
     returns
-    (λ c κs. search needs)
     (λ c κs. search needs)
     (λ c κs. search needs)
     (λ c κs. search needs)

@@ -22,8 +22,8 @@ abbrev μ-loop : tie.MeasureT-loop
 
 loop-holds : tie.Need-loop-holds Inv-loop μ-loop
 loop-holds c =
-    let a = c .before .before .before .before .before .before .before .before .before .args in
-    rw (c .none-yet .ensures, c .before .record-length .ensures .0)
+    let a = c .before .before .before .before .before .before .before .before .args in
+    rw (c .none-yet .ensures, c .before .record-length .ensures .0, c .before .before .counts-in .ensures)
     (going-first (wordsIn (now (a .settings)) (now (a .states)) (now (a .marks))) (now (a .bytes)) (now (a .out)))
 
 mul-used : tie.Need-mul-used Inv-loop μ-loop
@@ -33,7 +33,7 @@ mul-used c =
       arith,
       has-room g,
       buffer-kept g,
-      c .before .before .before .before .before .before .before .before .before .before .before .before .before .before .good .1 .1 .1 .1 .0 .0,
+      c .before .before .before .before .before .before .before .before .before .before .before .before .before .good .1 .1 .1 .1 .0 .0,
     )
 
 part-left-start : tie.Need-part-left-start Inv-loop μ-loop
@@ -43,7 +43,7 @@ count-answer-requires : tie.Need-count-answer-requires Inv-loop μ-loop
 count-answer-requires c κs =
     let l = c .before .before .before .before .before .before .before .before .before .before .before .before .before .before .loop in
     let half = c .before .before .before .before .before .before .before .before .before .before .before .before in
-    let s = half .before .before .before .before .before .before .before .before .before .before .before .before in
+    let s = half .before .before .before .before .before .before .before .before .before .before .before in
     let p : Progress = record { words = wordsIn (now (s .args .settings)) (l .states) (l .marks); tally = l .done; buffer = l .out } in
     let few =
     few-records (l .inv) (c .before .before .before .before .before .before .before .before .before .before .before .before .before .loop-test .taken) in
@@ -53,7 +53,7 @@ count-answer-requires c κs =
 add-index : tie.Need-add-index Inv-loop μ-loop
 add-index c =
     let test = c .before .before .before .before .before .before .before .before .before .before .before .before .before .before in
-    let start = test .before .before .before .before .before .before .before .before .before .before .before in
+    let start = test .before .before .before .before .before .before .before .before .before .before in
     omega (arith, few-records (test .before .loop .inv) (test .loop-test .taken), start .good .1 .1 .1 .0 .0)
 
 loop-less : tie.Need-loop-less Inv-loop μ-loop
@@ -69,7 +69,7 @@ loop-again : tie.Need-loop-again Inv-loop μ-loop
 loop-again c =
     let l = c .before .before .before .before .before .before .before .before .before .before .before .before .before .before .before .loop in
     let half = c .before .before .before .before .before .before .before .before .before .before .before .before in
-    let s = half .before .before .before .before .before .before .before .before .before .before .before .before .before in
+    let s = half .before .before .before .before .before .before .before .before .before .before .before .before in
     let p : Progress = record { words = wordsIn (now (s .args .settings)) (l .states) (l .marks); tally = l .done; buffer = l .out } in
     let e = c .before .before .before .before .before .before .before .scan .ensures in
     going-next (l .inv) (c .before .before .before .before .before .before .before .before .before .before .before .before .before .before .loop-test .taken)
@@ -98,8 +98,7 @@ run-spec =
     (tie.spec
     Inv-loop
     μ-loop
-    (λ c. search needs)
-    (λ c. search needs)
+    (λ c κs. search needs)
     (λ c κs. search needs)
     (λ c κs. search needs)
     loop-holds

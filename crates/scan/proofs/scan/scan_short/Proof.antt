@@ -23,16 +23,14 @@ scan-alarms-requires c κs =
     let stepped = marked .before .before .before .before in
     let r = stepped .before .before .before .before .before .before .before .before .pre in (
       record {
-        digital-most = r .digital-most;
-        analog-most = r .analog-most;
+        most = r .most;
         settings-long = r .settings-long;
         states-long = ap length (stepped .copy-words .ensures) ∙ r .states-long;
         marks-long = ap length (marked .copy-words2 .ensures) ∙ r .marks-long;
-        digital-is = r .digital-is;
-        analog-is = r .analog-is;
+        counts-are = r .counts-are;
         record-long = r .record-long;
       },
-      omega (arith, r .digital-most, r .analog-most),
+      omega (arith, r .most),
     )
 
 returns : tie.Need-returns
@@ -64,7 +62,7 @@ copy-bytes-requires c κs =
     let w : Words = wordsIn (now (a .settings)) (now (a .states)) (now (a .marks)) in
     let copied : wordsIn (now (a .settings)) _ _ ≡ w = λ i. wordsIn (now (a .settings)) (stepped .copy-words .ensures i) (marked .copy-words2 .ensures i) in
     let used = ran .scan-alarms .ensures .0 ∙ ap (λ (v : Words). length (logAfter v rec)) copied in
-    (omega (arith, used, room-after w rec (s .pre), s .pre .digital-most, s .pre .analog-most), omega (arith, test .if1 .left))
+    (omega (arith, used, room-after w rec (s .pre), s .pre .most), omega (arith, test .if1 .left))
 
 returns-2 : tie.Need-returns-2
 returns-2 c =
@@ -86,7 +84,7 @@ returns-2 c =
     let most = room-after w rec (s .pre) in
     let front =
     ap (take (ran .scan-alarms .result)) (e .1 .1 .1)
-    ∙ front-taken _ _ (e .0) (omega (arith, ap length logged, most, s .pre .digital-most, s .pre .analog-most))
+    ∙ front-taken _ _ (e .0) (omega (arith, ap length logged, most, s .pre .most))
     ∙ logged in (
       ap (λ (k : ℕ). Events (k / 16)) used ∙ roomy-answer w rec room h,
       (

@@ -14,7 +14,8 @@ returns c = simp (← c .before .is-whole .ensures, not-true (c .before .is-whol
 
 get-u64-requires : tie.Need-get-u64-requires
 get-u64-requires c κs =
-    omega (arith, whole-says _ _ _ (sym (c .before .is-whole .ensures) ∙ not-false (c .before .is-whole .result) (c .if1 .left)) .size)
+    let w = c .before .is-whole in
+    omega (arith, whole-says (c .before .before .before .args .counts) _ (sym (w .ensures) ∙ not-false (w .result) (c .if1 .left)) .size)
 
 returns-2 : tie.Need-returns-2
 unfolding checkRecord
@@ -25,8 +26,8 @@ returns-2 c =
 check-alarms-requires : tie.Need-check-alarms-requires
 check-alarms-requires c κs =
     let w = c .before .before .before .is-whole in
-    let says = whole-says _ _ _ (sym (w .ensures) ∙ not-false (w .result) (c .before .before .if1 .left)) in
-    ((says .digital-most, says .analog-most), says .size)
+    let says = whole-says _ _ (sym (w .ensures) ∙ not-false (w .result) (c .before .before .if1 .left)) in
+    (says .most, says .size)
 
 returns-3 : tie.Need-returns-3
 unfolding checkRecord

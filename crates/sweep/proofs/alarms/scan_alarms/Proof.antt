@@ -8,7 +8,9 @@ use native.Mathlib.Nat.{zero-add}
 use native.Mathlib.Omega.{arith}
 use lib.ListN.{length, set, length-set}
 use lib.Seq.{sets, length-sets}
-use Rattle.layout.specs.Internal.Block.{digitalIn, countIn}
+use Rattle.settings.specs.Counts.{inAll}
+use Rattle.settings.specs.declared.counts.Counts.{Counts}
+use Rattle.layout.specs.Internal.Block.{countsIn, countIn}
 use Rattle.bank.specs.Lent.{Words}
 use Rattle.bank.specs.Internal.Words.{wordsIn}
 use Rattle.sweep.specs.Internal.Sweep.{steppedFrom, markedFrom, logFrom, wordsAfter}
@@ -25,42 +27,43 @@ scan-form-requires c κs =
     let r = s .pre .0 in
     let rec : List ℕ = now (a .bytes) in
     let w : Words = wordsIn (now (a .settings)) (now (a .states)) (now (a .marks)) in
-    let most = room-most w rec (a .digital) (a .analog) (r .digital-is) in (
-      (omega (arith, r .digital-most), r .settings-long, r .states-long, r .marks-long),
+    let d : a .counts .digital ≡ countsIn (now (a .settings)) .digital = ap (λ (k : Counts). k .digital) (r .counts-are) in
+    let most = room-most w rec (a .counts) (r .counts-are) in (
+      (omega (arith, r .most), r .settings-long, r .states-long, r .marks-long),
       (
         (c .before .before .before .get-u64 .ensures, omega arith, omega (arith, r .record-long)),
         (
-          rw (r .digital-is) (digital-places (digitalIn (now (a .settings)))),
-          omega (arith, log-grows w rec 0 (a .digital) (a .analog), most, s .pre .1),
+          rw (← d) (digital-places (a .counts)),
+          omega (arith, log-grows w rec 0 (a .counts .digital) (a .counts .analog), most, s .pre .1),
         ),
       ),
     )
 
 scan-form-requires-2 : tie.Need-scan-form-requires-2
 scan-form-requires-2 c κs =
-    let first = c .before .before .before .before .before .before .before .before .before in
+    let first = c .before .before .before .before .before .before .before .before .before .before in
     let e = first .scan-form .ensures in
     let s = first .before .before .before .before .before .before .before .before .before .before in
     let a = s .args in
     let r = s .pre .0 in
-    let d = r .digital-is in
+    let d : a .counts .digital ≡ countsIn (now (a .settings)) .digital = ap (λ (k : Counts). k .digital) (r .counts-are) in
     let rec : List ℕ = now (a .bytes) in
     let w : Words = wordsIn (now (a .settings)) (now (a .states)) (now (a .marks)) in
-    let log : length (logFrom _ rec (a .digital) (a .analog)) ≡ length (logFrom (half w rec (a .digital)) rec (a .digital) (a .analog)) =
-    λ i. length (logFrom (wordsIn (now (a .settings)) (e .1 .0 i) (e .1 .1 .0 i)) rec (a .digital) (a .analog)) in
-    let most = room-most w rec (a .digital) (a .analog) d in
-    let out = ap length (e .1 .1 .1) ∙ length-sets (now (a .out)) 0 (logFrom w rec 0 (a .digital)) in (
+    let log : length (logFrom _ rec (a .counts .digital) (a .counts .analog)) ≡ length (logFrom (half w rec (a .counts .digital)) rec (a .counts .digital) (a .counts .analog)) =
+    λ i. length (logFrom (wordsIn (now (a .settings)) (e .1 .0 i) (e .1 .1 .0 i)) rec (a .counts .digital) (a .counts .analog)) in
+    let most = room-most w rec (a .counts) (r .counts-are) in
+    let out = ap length (e .1 .1 .1) ∙ length-sets (now (a .out)) 0 (logFrom w rec 0 (a .counts .digital)) in (
       (
-        omega (arith, r .digital-most, r .analog-most),
+        omega (arith, r .most),
         r .settings-long,
-        ap length (e .1 .0) ∙ stepped-length w rec 0 (a .digital) ∙ r .states-long,
-        ap length (e .1 .1 .0) ∙ marked-length w rec 0 (a .digital) ∙ r .marks-long,
+        ap length (e .1 .0) ∙ stepped-length w rec 0 (a .counts .digital) ∙ r .states-long,
+        ap length (e .1 .1 .0) ∙ marked-length w rec 0 (a .counts .digital) ∙ r .marks-long,
       ),
       (
         (first .before .before .before .before .get-u64 .ensures, rw (← d) (omega arith), omega (arith, r .record-long)),
         (
-          rw (← d) (analog-places (a .digital) (a .analog)),
-          omega (arith, log, e .0, length-whole w rec (a .digital) (a .analog), most, s .pre .1, out),
+          rw (← d) (analog-places (a .counts)),
+          omega (arith, log, e .0, length-whole w rec (a .counts .digital) (a .counts .analog), most, s .pre .1, out),
         ),
       ),
     )
@@ -68,51 +71,51 @@ scan-form-requires-2 c κs =
 slice-write-states : tie.Need-slice-write-states
 slice-write-states c =
     let second = c .before .before .before .before .before .before in
-    let first = second .before .before .before .before .before .before .before .before .before .before in
+    let first = second .before .before .before .before .before .before .before .before .before .before .before in
     let s = first .before .before .before .before .before .before .before .before .before .before in
     let a = s .args in
     let e = first .scan-form .ensures in
     let rec : List ℕ = now (a .bytes) in
     let w : Words = wordsIn (now (a .settings)) (now (a .states)) (now (a .marks)) in
-    let then : wordsIn (now (a .settings)) _ _ ≡ half w rec (a .digital) = λ i. wordsIn (now (a .settings)) (e .1 .0 i) (e .1 .1 .0 i) in
-    let states = second .scan-form2 .ensures .1 .0 ∙ ap (λ (v : Words). steppedFrom v rec (a .digital) (a .analog)) then in
-    omega (arith, ap length states ∙ states-long w rec (a .digital) (a .analog) ∙ s .pre .0 .states-long)
+    let then : wordsIn (now (a .settings)) _ _ ≡ half w rec (a .counts .digital) = λ i. wordsIn (now (a .settings)) (e .1 .0 i) (e .1 .1 .0 i) in
+    let states = second .scan-form2 .ensures .1 .0 ∙ ap (λ (v : Words). steppedFrom v rec (a .counts .digital) (a .counts .analog)) then in
+    omega (arith, ap length states ∙ states-long w rec (a .counts .digital) (a .counts .analog) ∙ s .pre .0 .states-long)
 
 same-length : tie.Need-same-length
 same-length c =
     let second = c .before .before .before .before .before .before in
-    let first = second .before .before .before .before .before .before .before .before .before .before in
+    let first = second .before .before .before .before .before .before .before .before .before .before .before in
     let s = first .before .before .before .before .before .before .before .before .before .before in
     let a = s .args in
     let e = first .scan-form .ensures in
     let rec : List ℕ = now (a .bytes) in
     let w : Words = wordsIn (now (a .settings)) (now (a .states)) (now (a .marks)) in
-    let then : wordsIn (now (a .settings)) _ _ ≡ half w rec (a .digital) = λ i. wordsIn (now (a .settings)) (e .1 .0 i) (e .1 .1 .0 i) in
-    let states = second .scan-form2 .ensures .1 .0 ∙ ap (λ (v : Words). steppedFrom v rec (a .digital) (a .analog)) then in
-    simp length-set (ap length states ∙ states-long w rec (a .digital) (a .analog))
+    let then : wordsIn (now (a .settings)) _ _ ≡ half w rec (a .counts .digital) = λ i. wordsIn (now (a .settings)) (e .1 .0 i) (e .1 .1 .0 i) in
+    let states = second .scan-form2 .ensures .1 .0 ∙ ap (λ (v : Words). steppedFrom v rec (a .counts .digital) (a .counts .analog)) then in
+    simp length-set (ap length states ∙ states-long w rec (a .counts .digital) (a .counts .analog))
 
 returns : tie.Need-returns
 unfolding wordsAfter
 returns c =
     let second = c .before .before .before .before .before .before in
-    let first = second .before .before .before .before .before .before .before .before .before .before in
+    let first = second .before .before .before .before .before .before .before .before .before .before .before in
     let s = first .before .before .before .before .before .before .before .before .before .before in
     let f = second .scan-form2 .ensures in
     let e = first .scan-form .ensures in
     let a = s .args in
     let r = s .pre .0 in
     let rec : List ℕ = now (a .bytes) in
-    let d = a .digital in
+    let d = a .counts .digital in
     let w : Words = wordsIn (now (a .settings)) (now (a .states)) (now (a .marks)) in
     let then : wordsIn (now (a .settings)) _ _ ≡ half w rec d = λ i. wordsIn (now (a .settings)) (e .1 .0 i) (e .1 .1 .0 i) in
-    let log = ap (λ (v : Words). logFrom v rec d (a .analog)) then in
-    let n : d + a .analog ≡ countIn (now (a .settings)) = λ i. r .digital-is i + r .analog-is i in
+    let log = ap (λ (v : Words). logFrom v rec d (a .counts .analog)) then in
+    let n : d + a .counts .analog ≡ countIn (now (a .settings)) = ap inAll (r .counts-are) in
     let used = zero-add (length (logFrom w rec 0 d)) in
-    let states = f .1 .0 ∙ ap (λ (v : Words). steppedFrom v rec d (a .analog)) then ∙ states-whole w rec d (a .analog) ∙ ap (steppedFrom w rec 0) n in
-    let marks = f .1 .1 .0 ∙ ap (λ (v : Words). markedFrom v rec d (a .analog)) then ∙ marks-whole w rec d (a .analog) ∙ ap (markedFrom w rec 0) n in (
+    let states = f .1 .0 ∙ ap (λ (v : Words). steppedFrom v rec d (a .counts .analog)) then ∙ states-whole w rec d (a .counts .analog) ∙ ap (steppedFrom w rec 0) n in
+    let marks = f .1 .1 .0 ∙ ap (λ (v : Words). markedFrom v rec d (a .counts .analog)) then ∙ marks-whole w rec d (a .counts .analog) ∙ ap (markedFrom w rec 0) n in (
       f .0
           ∙ (λ i. (e .0 ∙ used) i + length (log i))
-          ∙ length-whole w rec d (a .analog)
+          ∙ length-whole w rec d (a .counts .analog)
           ∙ ap (λ (k : ℕ). length (logFrom w rec 0 k)) n,
       (
         (λ i. set (states i) 0 (first .before .before .before .before .get-u64 .ensures i)),
@@ -120,7 +123,7 @@ returns c =
           marks,
           f .1 .1 .1
               ∙ (λ i. sets (e .1 .1 .1 i) (e .0 i) (log i))
-              ∙ out-whole w rec d (a .analog) (now (a .out))
+              ∙ out-whole w rec d (a .counts .analog) (now (a .out))
               ∙ ap (λ (k : ℕ). sets (now (a .out)) 0 (logFrom w rec 0 k)) n,
         ),
       ),

@@ -9,9 +9,8 @@ use native.Mathlib.Nat.{add-zero, mul-zero}
 use native.Mathlib.Omega.{arith}
 use lib.ListN.{length}
 use lib.Seq.{sets, length-sets}
-use Rattle.settings.specs.Alarm.{formAt}
 use Rattle.settings.specs.declared.types.Form.{Form}
-use Rattle.layout.specs.Internal.Block.{digitalIn}
+use Rattle.layout.specs.Internal.Block.{countsIn}
 use Rattle.scan_record.specs.Part.{offsetOf}
 use Rattle.scan_record.specs.Internal.Size.{entrySize}
 use Rattle.scan_record.proofs.Entries.{offset-next}
@@ -26,7 +25,7 @@ use Rattle.sweep.proofs.alarms.scan_form.Tie as tie
 abbrev Inv-loop : tie.InvT-loop
 Inv-loop settings states₀ marks₀ bytes begin out₀ start form first count time n₀ at₀ used₀ states marks out n at used =
     (n ≤ count)
-    × (at ≡ offsetOf (digitalIn settings) (first + n))
+    × (at ≡ offsetOf (countsIn settings) (first + n))
     × (at ≡ begin + entrySize form * n)
     × (used ≡ start + length (logFrom (wordsIn settings states₀ marks₀) bytes first n))
     × (states ≡ steppedFrom (wordsIn settings states₀ marks₀) bytes first n)
@@ -44,7 +43,7 @@ loop-holds c =
     let rec : List ℕ = now (a .bytes) in
     let w : Words = wordsIn (now (a .settings)) (now (a .states)) (now (a .marks)) in (
       search needs,
-      s .pre .1 .0 .1 ∙ ap (offsetOf (digitalIn (now (a .settings)))) (sym (add-zero (a .first))),
+      s .pre .1 .0 .1 ∙ ap (offsetOf (countsIn (now (a .settings)))) (sym (add-zero (a .first))),
       sym (ap (λ (k : ℕ). a .begin + k) (mul-zero (entrySize (a .form))) ∙ add-zero (a .begin)),
       sym (ap (λ (l : List ℕ). a .start + length l) (log-none w rec (a .first)) ∙ add-zero (a .start)),
       refl,
@@ -109,8 +108,8 @@ loop-again c =
     let e = ap length (log-here w rec (a .first) (l .n) f (l .inv .1) t (l .inv .4)) in
     let place : a .first + l .n + 1 ≡ a .first + (l .n + 1) = omega arith in (
       omega arith,
-      (λ i. l .inv .1 i + size i) ∙ ap (λ (g : Form). offsetOf (digitalIn (now (a .settings))) (a .first + l .n) + entrySize g) (sym f)
-          ∙ offset-next (digitalIn (now (a .settings))) (a .first + l .n) ∙ ap (offsetOf (digitalIn (now (a .settings)))) place,
+      (λ i. l .inv .1 i + size i) ∙ ap (λ (g : Form). offsetOf (countsIn (now (a .settings))) (a .first + l .n) + entrySize g) (sym f)
+          ∙ offset-next (countsIn (now (a .settings))) (a .first + l .n) ∙ ap (offsetOf (countsIn (now (a .settings)))) place,
       ap (λ (k : ℕ). l .at + k) size ∙ part-next (a .begin) (entrySize (a .form)) (l .n) (l .inv .2),
       omega (arith, p .0, e, l .inv .3, length-next w rec (a .first) (l .n)),
       p .1 .0 ∙ states-next w rec (a .first) (l .n) f (l .inv .1) t (l .inv .4),

@@ -1,7 +1,7 @@
--- `scan_record::check::form_at` meets its contract: each return takes the case that its test led to. Assumes nothing.
+-- `settings::counts::form_at` meets its contract: each return takes the case that its test led to. Assumes nothing.
 use borrow.Author.Tests.{lt-ltb, le-ltb}
-use Rattle.scan_record.proofs.check.form_at.Statement.{statement}
-use Rattle.scan_record.proofs.check.form_at.Tie as tie
+use Rattle.settings.proofs.counts.form_at.Statement.{statement}
+use Rattle.settings.proofs.counts.form_at.Tie as tie
 
 returns : tie.Need-returns
 returns c = rw (lt-ltb _ _ (c .if1 .taken))
