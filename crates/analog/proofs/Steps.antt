@@ -33,7 +33,7 @@ use Rattle.state.specs.Internal.Starts.{keepStarts}
 use Rattle.sample.specs.Internal.Sample.{staysIn, rateIn, sampleIn, sampledIn}
 use Rattle.analog.specs.Internal.Analog.{analogEnabled, samplePattern, ratePattern, analogStep}
 use Rattle.analog.specs.Internal.Packed.{allBegin, readyIn, enabledIn, decided, SameFrees, flagsAfter}
-use Rattle.state.proofs.Words.{pair-back, copied, n3, n4, n5, n6, n7, n8, n9, n10}
+use Rattle.layout.proofs.Stay.{pair-back, copied, n3, n4, n5, n6, n7, n8, n9, n10}
 use Rattle.state.proofs.Starts.{startValues, values-behind, starts-stored}
 use Rattle.sample.proofs.Patterns.{rate-is, value-is, rate-fits, rate-back}
 use Rattle.analog.proofs.Words.{analog-stored, rest-stored}

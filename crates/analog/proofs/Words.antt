@@ -6,7 +6,7 @@ use lib.ListN.{getD, set}
 use native.Mathlib.Omega.{arith}
 use lib.Seq.{sets, set-getD, getD-set-other}
 use Rattle.layout.proofs.Laws.{getD-above, getD-below}
-use Rattle.state.proofs.Words.{copied, stay}
+use Rattle.layout.proofs.Stay.{copied, stay}
 use Rattle.state.proofs.Starts.{set-first}
 
 -- the first three words, and the starts

@@ -24,29 +24,9 @@ pub const OPER_SUPPRESS: u32 = 0x800;
 
 pub const OPER_UNSUPPRESS: u32 = 0x1000;
 
-// One condition's acknowledgements.
+// Of HH, the first of six bits in a row, one a condition.
 pub const PROG_ACK_HH: u32 = 0x2000;
 
-pub const PROG_ACK_H: u32 = 0x4000;
-
-pub const PROG_ACK_L: u32 = 0x8000;
-
-pub const PROG_ACK_LL: u32 = 0x10000;
-
-pub const PROG_ACK_ROCPOS: u32 = 0x20000;
-
-pub const PROG_ACK_ROCNEG: u32 = 0x40000;
-
 pub const OPER_ACK_HH: u32 = 0x80000;
-
-pub const OPER_ACK_H: u32 = 0x100000;
-
-pub const OPER_ACK_L: u32 = 0x200000;
-
-pub const OPER_ACK_LL: u32 = 0x400000;
-
-pub const OPER_ACK_ROCPOS: u32 = 0x800000;
-
-pub const OPER_ACK_ROCNEG: u32 = 0x1000000;
 
 pub const IN_FAULT: u32 = 0x2000000;

@@ -5,19 +5,9 @@ ghost use Rattle.wire.specs.Internal.Words.{wordOf, spread};
 ghost use Rattle.condition.specs.Command.{resets, acksAll};
 ghost use Rattle.condition.specs.Internal.Outcome.{ackBits};
 use crate::bits::OPER_ACK;
-use crate::bits::OPER_ACK_H;
 use crate::bits::OPER_ACK_HH;
-use crate::bits::OPER_ACK_L;
-use crate::bits::OPER_ACK_LL;
-use crate::bits::OPER_ACK_ROCNEG;
-use crate::bits::OPER_ACK_ROCPOS;
 use crate::bits::OPER_RESET;
-use crate::bits::PROG_ACK_H;
 use crate::bits::PROG_ACK_HH;
-use crate::bits::PROG_ACK_L;
-use crate::bits::PROG_ACK_LL;
-use crate::bits::PROG_ACK_ROCNEG;
-use crate::bits::PROG_ACK_ROCPOS;
 use crate::bits::PROG_RESET;
 use wire::bits::spread6;
 
@@ -43,24 +33,14 @@ pub fn ack_word(word: u32, previous: u32) -> u32
         return 0;
     }
     let all = acks_all(word, previous);
+    // bits 0 to 5: the program bits that rise, beside the operator bits
+    let own = (word ^ (word & previous)) / PROG_ACK_HH | word / OPER_ACK_HH;
     spread6(
-        all
-            | ((word / PROG_ACK_HH % 2 == 1) & !(previous / PROG_ACK_HH % 2 == 1))
-            | (word / OPER_ACK_HH % 2 == 1),
-        all
-            | ((word / PROG_ACK_H % 2 == 1) & !(previous / PROG_ACK_H % 2 == 1))
-            | (word / OPER_ACK_H % 2 == 1),
-        all
-            | ((word / PROG_ACK_L % 2 == 1) & !(previous / PROG_ACK_L % 2 == 1))
-            | (word / OPER_ACK_L % 2 == 1),
-        all
-            | ((word / PROG_ACK_LL % 2 == 1) & !(previous / PROG_ACK_LL % 2 == 1))
-            | (word / OPER_ACK_LL % 2 == 1),
-        all
-            | ((word / PROG_ACK_ROCPOS % 2 == 1) & !(previous / PROG_ACK_ROCPOS % 2 == 1))
-            | (word / OPER_ACK_ROCPOS % 2 == 1),
-        all
-            | ((word / PROG_ACK_ROCNEG % 2 == 1) & !(previous / PROG_ACK_ROCNEG % 2 == 1))
-            | (word / OPER_ACK_ROCNEG % 2 == 1),
+        all | (own % 2 == 1),
+        all | (own / 2 % 2 == 1),
+        all | (own / 4 % 2 == 1),
+        all | (own / 8 % 2 == 1),
+        all | (own / 16 % 2 == 1),
+        all | (own / 32 % 2 == 1),
     )
 }

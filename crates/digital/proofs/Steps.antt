@@ -19,7 +19,7 @@ use Rattle.level.specs.Level.{bitMet}
 use Rattle.state.specs.Internal.State.{State, stateWords, stateIn}
 use Rattle.state.specs.Internal.Held.{DigitalHeld, lookDigital, digitalFlags, hideDigital}
 use Rattle.digital.specs.Internal.Digital.{digitalTold, digitalAfter, digitalEvents, digitalStep, restFlags}
-use Rattle.state.proofs.Words.{pair-back, copied, stay, n1, n2, n3, n4, n6, n7, n8, n9, n10}
+use Rattle.layout.proofs.Stay.{pair-back, copied, stay, n1, n2, n3, n4, n6, n7, n8, n9, n10}
 
 -- modes, what a digital alarm does not use, and one condition
 flags-join : (d s f a u r : Bool) → wordOf (d ∷ s ∷ f ∷ []) + conditionUnit * wordOf (a ∷ u ∷ r ∷ [])

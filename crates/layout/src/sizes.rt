@@ -16,8 +16,8 @@ pub const ALARM_WORDS: usize = 8;
 
 pub const SETTINGS_WORDS: usize = SETTINGS_HEAD + ALARM_WORDS * PLACES;
 
-// The letters MEIFGUR1, the first in the highest byte.
-pub const LAYOUT_WORD: u64 = 0x4D45_4946_4755_5231;
+// The letters MEIFGUR2, the first in the highest byte.
+pub const LAYOUT_WORD: u64 = 0x4D45_4946_4755_5232;
 
 // In front of the states: the time of the last accepted scan, and room.
 pub const STATES_HEAD: usize = 4;

@@ -16,7 +16,7 @@ use lib.Ieee.Fits.{cond-fits, div-fits}
 use Rattle.wire.specs.Real.{zeroReal}
 use Rattle.wire.proofs.Laws.{and-true}
 use Rattle.sample.specs.Internal.Sample.{staysIn, rateIn, sampleIn, sampledIn}
-use Rattle.state.proofs.Words.{pair-back, copied, stay}
+use Rattle.layout.proofs.Stay.{pair-back, copied, stay}
 
 zero-pattern : toBits binary32 zeroReal ≡ 0
 unfolding ofBits isNan

@@ -3,4 +3,3 @@ pub mod Held
 pub mod Most
 pub mod Starts
 pub mod Suppression
-pub mod Words

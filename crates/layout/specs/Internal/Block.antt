@@ -15,9 +15,9 @@ use Rattle.settings.specs.declared.types.Alarm.{Alarm}
 use Rattle.settings.specs.declared.types.Settings.{Settings}
 use Rattle.layout.specs.Internal.Words.{alarmIn, alarmWords, formOf}
 
--- the letters MEIFGUR1, the first in the highest byte
+-- the letters MEIFGUR2, the first in the highest byte
 abbrev pub layoutWord : ℕ
-layoutWord = 0x4D45494647555231
+layoutWord = 0x4D45494647555232
 
 -- where the words of the alarm at a place begin
 abbrev pub alarmAt : ℕ → ℕ

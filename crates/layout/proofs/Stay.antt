@@ -1,4 +1,4 @@
--- Words of a state that stay. Assumes nothing.
+-- Words that stay, and offsets. Assumes nothing.
 use mathlib.Core.Path.{_≡_, ap, _∙_, sym}
 use mathlib.Core.List.{List, _++_, [], _∷_}
 use Prim.Native.Nat.{ℕ, _+_, _≤_, zero, suc}
