@@ -63,7 +63,7 @@ fn check_alarms(bytes: &[u8], counts: Counts) -> Reply
     }
 }
 
-// Whether a bank may have these counts, and a record of `len` bytes is one of its.
+// Whether a bank may have these counts, and its records have `len` bytes.
 fn is_whole(counts: Counts, len: usize) -> bool
     ensures { λ r. ⌜ r ≡ areGood counts && eqb len (recordSize counts) ⌝ }
 {
