@@ -1,7 +1,7 @@
 //! Safe calls on a `Bank`, and over slices. No allocation; crates/meifgur_c/include/meifgur.h says what each call does and how
 //! its buffers are laid out.
 
-pub const VERSION: u32 = 2;
+pub const VERSION: u32 = 3;
 pub const ALARMS_MOST: usize = 24;
 pub const IMAGE_MOST: usize = 842;
 pub const EVENT_SIZE: usize = 16;

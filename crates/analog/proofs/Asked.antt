@@ -66,11 +66,13 @@ module _ (flags met : ℕ) where
   same-frees h = record { alike = λ enabled ready acks required. ap (λ (f : ℕ). cellsOf flags enabled met f ready acks required) h }
 
   -- no condition is met and not in alarm
-  pub ready-unasked : bitXor (bitAnd met sixBits) (bitAnd (bitAnd met sixBits) (flags / conditionUnit)) ≡ 0 → (ready other : ℕ) → SameReady flags met ready other
+  pub ready-unasked : bitXor (bitAnd met sixBits) (bitAnd (bitAnd met sixBits) (flags / conditionUnit)) ≡ 0 → (ready other : ℕ)
+      → SameReady flags met ready other
   unfolding cellsOf
   ready-unasked z ready other =
       let rising : Thirds (bitXor (bitAnd met sixBits) (bitAnd (bitAnd met sixBits) (flags / conditionUnit))) (λ k. bit met (3 * k) && not (was k)) =
-      same (lacking (of-word (every true) met) (flags / conditionUnit)) (λ k. ap (λ (b : Bool). bit met (3 * k) && not b) (bit-shift flags firstCondition (3 * k)))
+      same (lacking (of-word (every true) met) (flags / conditionUnit)) (λ k. ap (λ (b : Bool). bit met (3 * k) && not b)
+      (bit-shift flags firstCondition (3 * k)))
       in
       record {
         alike = λ enabled frees acks required.
@@ -81,11 +83,14 @@ module _ (flags met : ℕ) where
       }
 
   -- none is in alarm and not met
-  pub frees-unasked : bitXor (bitAnd (flags / conditionUnit) sixBits) (bitAnd (bitAnd (flags / conditionUnit) sixBits) met) ≡ 0 → (frees other : ℕ) → SameFrees flags met frees other
+  pub frees-unasked : bitXor (bitAnd (flags / conditionUnit) sixBits) (bitAnd (bitAnd (flags / conditionUnit) sixBits) met) ≡ 0 → (frees other : ℕ)
+      → SameFrees flags met frees other
   unfolding cellsOf
   frees-unasked z frees other =
-      let falling : Thirds (bitXor (bitAnd (flags / conditionUnit) sixBits) (bitAnd (bitAnd (flags / conditionUnit) sixBits) met)) (λ k. was k && not (bit met (3 * k))) =
-      same (lacking (of-word (every true) (flags / conditionUnit)) met) (λ k. ap (λ (b : Bool). b && not (bit met (3 * k))) (bit-shift flags firstCondition (3 * k)))
+      let falling : Thirds (bitXor (bitAnd (flags / conditionUnit) sixBits) (bitAnd (bitAnd (flags / conditionUnit) sixBits) met))
+      (λ k. was k && not (bit met (3 * k))) =
+      same (lacking (of-word (every true) (flags / conditionUnit)) met) (λ k. ap (λ (b : Bool). b && not (bit met (3 * k)))
+      (bit-shift flags firstCondition (3 * k)))
       in
       record {
         alike = λ enabled ready acks required.

@@ -58,12 +58,14 @@ module _ {X : Type 0} (n : Numbers X) (p : Patterns X) (a : AnalogOf X) (s : Sta
       })
       (bit (s .flags) (conditionBit k 0)) (bit (s .flags) (conditionBit k 1))
 
-  pub cells-are : cellsOf (s .flags) (not (after .disabled)) (wordOf (spread (metBits n a (n .number x) (after .sample .rate)))) (wordOf (spread (freesBits n a (n .number x))))
+  pub cells-are : cellsOf (s .flags) (not (after .disabled)) (wordOf (spread (metBits n a (n .number x) (after .sample .rate))))
+      (wordOf (spread (freesBits n a (n .number x))))
       (wordOf (spread ready)) (wordOf (spread (ackBits word (s .previous)))) (bit (a .flags) 4)
       ≡ record { kept = wordOf (six (take 3) outcomes); events = wordOf (six (drop 3) outcomes) }
   unfolding cellsOf
   cells-are =
-      let e = fun-ext (cell-lists (s .flags) (not (after .disabled)) (bit (a .flags) 4) (metBits n a (n .number x) (after .sample .rate)) (freesBits n a (n .number x)) ready (ackBits word (s .previous))) in
+      let e = fun-ext (cell-lists (s .flags) (not (after .disabled)) (bit (a .flags) 4) (metBits n a (n .number x) (after .sample .rate))
+      (freesBits n a (n .number x)) ready (ackBits word (s .previous))) in
       ap (λ (o : ℕ → List Bool). record { kept = wordOf (six (take 3) o); events = wordOf (six (drop 3) o) }) e
 
   pub analog-flags : {m r : ℕ} → m ≡ wordOf (modeBits (bit (s .flags) 0) (bit (s .flags) 1) word (s .previous))

@@ -184,7 +184,11 @@ module _ (a : AnalogOf Float) (ws : List ℕ) (at : ℕ) (x : Reading) (word tim
     on-is = enabled-is a kept x word time p
 
     six-are : decided first high low m met′ frees′ duration required word time
-        ≡ record { kept = wordOf (six (take 3) (outcomes reals realPatterns a kept x word time)); events = wordOf (six (drop 3) (outcomes reals realPatterns a kept x word time)) }
+        ≡ record {
+          kept = wordOf (six (take 3) (outcomes reals realPatterns a kept x word time));
+          events =
+              wordOf (six (drop 3) (outcomes reals realPatterns a kept x word time));
+        }
     unfolding decided stateIn
     six-are =
         let ready : ℕ = readyIn (lowerOf first) high low duration time in
@@ -215,7 +219,8 @@ pub analog-done : (a : AnalogOf Float) (ws : List ℕ) (at : ℕ) (x : Reading) 
     → enabled ≡ analogEnabled reals a x word time (lookAnalog realPatterns (stateIn ws at))
     → met′ ≡ wordOf (spread (metBits reals a (realOf x) (after reals realPatterns a (stateIn ws at) x word time .sample .rate)))
     → first ≡ pairOf (wordOf (analogFlags (after reals realPatterns a (stateIn ws at) x word time))) word
-    → l ≡ sets ws (at + 1) (sampleIn (stateIn ws at .flags) enabled (a .period) (getD ws (at + 1) 0) (getD ws (at + 2) 0) (valueOf reals (realOf x)) time ∷ sampledIn (stateIn ws at .flags) (a .period) (getD ws (at + 2) 0) time ∷ [])
+    → l ≡ sets ws (at + 1) (sampleIn (stateIn ws at .flags) enabled (a .period) (getD ws (at + 1) 0) (getD ws (at + 2) 0) (valueOf reals (realOf x)) time ∷
+    sampledIn (stateIn ws at .flags) (a .period) (getD ws (at + 2) 0) time ∷ [])
     → was ≡ getD ws at 0 → k ≡ set (keepStarts (allBegin (lowerOf was) enabled met′) time (at + 3) l) at first
     → k ≡ sets ws at (stateWords (analogStep reals realPatterns a (stateIn ws at) x word time .state))
 unfolding analogStep stateWords stateIn
@@ -249,7 +254,8 @@ first-previous ws at f = ap upperOf f
 pub rest-done : (a : AnalogOf Float) (ws : List ℕ) (at : ℕ) (x : Reading) (word time : ℕ) {enabled : Bool} {l : List ℕ}
     → enabled ≡ analogEnabled reals a x word time (lookAnalog realPatterns (stateIn ws at)) → word ≡ 0 → getD ws at 0 ≡ 8
     → ((c : Six) → met reals a (ofSix c) (realOf x) (after reals realPatterns a (stateIn ws at) x word time .sample .rate) ≡ false)
-    → l ≡ sets ws (at + 1) (sampleIn (stateIn ws at .flags) enabled (a .period) (getD ws (at + 1) 0) (getD ws (at + 2) 0) (valueOf reals (realOf x)) time ∷ sampledIn (stateIn ws at .flags) (a .period) (getD ws (at + 2) 0) time ∷ [])
+    → l ≡ sets ws (at + 1) (sampleIn (stateIn ws at .flags) enabled (a .period) (getD ws (at + 1) 0) (getD ws (at + 2) 0) (valueOf reals (realOf x)) time ∷
+    sampledIn (stateIn ws at .flags) (a .period) (getD ws (at + 2) 0) time ∷ [])
     → (0 ≡ analogStep reals realPatterns a (stateIn ws at) x word time .events)
     × (l ≡ sets ws at (stateWords (analogStep reals realPatterns a (stateIn ws at) x word time .state)))
 rest-done a ws at x word time e w f unmet p =

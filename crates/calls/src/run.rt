@@ -20,6 +20,7 @@ use call_text::spelling::BYTES;
 use call_text::spelling::BYTES_SIZE;
 use call_text::spelling::NUMBER;
 use call_text::spelling::ROOM;
+use event::write::EVENT_SIZE;
 use image::write::Written;
 use image::write::write;
 use layout::block::counts_in;
@@ -36,9 +37,6 @@ use settings::reply::Refusal;
 use settings::reply::Reply;
 use text::input::part;
 use text::output::TEXT_SIZE;
-
-// Bytes of an event record.
-const EVENT_SIZE: usize = 16;
 
 // How many alarms a bank has. (A load writes no counts that a bank may not have)
 fn alarms_in(counts: Counts) -> usize {

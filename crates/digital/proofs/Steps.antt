@@ -94,7 +94,8 @@ digital-rest-done a ws at x word time {m} e w f =
     let s : State = stateIn ws at in
     let first : ℕ = getD ws at 0 in
     let halves = rest-halves m f in
-    let rests = digital-rests a s x word time m (bit first (conditionBit 0 1)) (sym e) w (halves .0 ∙ f ∙ ap (restFlags m) (sym (bit-digit first (conditionBit 0 1)))) in
+    let rests = digital-rests a s x word time m (bit first (conditionBit 0 1)) (sym e) w (halves .0 ∙ f
+    ∙ ap (restFlags m) (sym (bit-digit first (conditionBit 0 1)))) in
     let kept : first ≡ pairOf (wordOf (digitalFlags (digitalAfter a x word time (lookDigital s)))) word =
     sym (pair-back first) ∙ (λ i. pairOf (rests .1 i) ((halves .1 ∙ sym w) i))
     in (

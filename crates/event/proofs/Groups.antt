@@ -39,10 +39,12 @@ module _ (alarm : ℕ) (kind : Kind) (suppressed : Bool) (time : ℕ) where
       go false e es p q = q
 
   -- the bits of the whole alarm
-  pub whole-log : (word : ℕ) → alarm < 256 → logBytes (eventsOf alarm kind suppressed time firstCondition 0 word) ≡ recordsOf time firstCondition (headOf alarm 7 1 suppressed 0) word
+  pub whole-log : (word : ℕ) → alarm < 256 → logBytes (eventsOf alarm kind suppressed time firstCondition 0 word) ≡ recordsOf time firstCondition
+      (headOf alarm 7 1 suppressed 0) word
   whole-log word a = group firstCondition 0 (headOf alarm 7 1 suppressed 0) word (λ i j v l p q. one j v (omega arith) (omega arith))
     where
-      one : (j v : ℕ) → j < firstCondition → v ≡ headOf alarm 7 1 suppressed 0 + 65536 * j → eventBytes (eventAt alarm kind suppressed time j) ≡ bytes 8 v ++ bytes 8 time
+      one : (j v : ℕ) → j < firstCondition → v ≡ headOf alarm 7 1 suppressed 0 + 65536 * j → eventBytes (eventAt alarm kind suppressed time j) ≡ bytes 8 v ++
+          bytes 8 time
       one j v m q =
           let w : v ≡ headOf alarm 7 (j + 1) suppressed 0 = omega arith in
           rw (lt-ltb j firstCondition m, w)
@@ -50,7 +52,8 @@ module _ (alarm : ℕ) (kind : Kind) (suppressed : Bool) (time : ℕ) where
           (omega arith) (omega arith))
 
 -- the condition of a bit, by the form
-own-condition : (form : Form) (ws : List ℕ) (from place j : ℕ) → (j - firstCondition) / 3 ≡ place → ownCondition (kindIn form ws from) j ≡ conditionOf form place
+own-condition : (form : Form) (ws : List ℕ) (from place j : ℕ) → (j - firstCondition) / 3 ≡ place
+    → ownCondition (kindIn form ws from) j ≡ conditionOf form place
 own-condition DigitalForm ws from place j e = refl
 own-condition AnalogForm ws from place j e = rw e
 
@@ -77,7 +80,13 @@ module _ (alarm : ℕ) (form : Form) (ws : List ℕ) (from : ℕ) (suppressed : 
   event-is : (place i j : ℕ) → place < 6 → i < 3 → j ≡ conditionBit place 0 + i → eventAt alarm (kindIn form ws from) suppressed time j ≡ eventOf place i
   event-is place i j h l p =
       let m : (j - firstCondition) % 3 ≡ i = omega arith in
-      rw (le-ltb j firstCondition (omega arith), m, own-condition form ws from place j (omega arith), lt-ltb (conditionOf form place) 7 (small-condition form place h))
+      rw (
+        le-ltb j firstCondition (omega arith),
+        m,
+        own-condition form ws from place j (omega arith),
+        lt-ltb (conditionOf form place) 7
+            (small-condition form place h),
+      )
 
   -- the bits of the condition at a place
   pub condition-log : (place word : ℕ) → place < 6 → alarm < 256 → severityOf place < 65536

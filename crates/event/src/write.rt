@@ -17,6 +17,9 @@ use settings::types::Form;
 use wire::number::put_u64;
 use wire::places::CONDITIONS;
 
+// Bytes of a record.
+pub const EVENT_SIZE: usize = 16;
+
 // What one counts in the fields of a record's head: the condition, the kind, the suppressed byte, the severity.
 pub const CONDITION: u64 = 0x100;
 
@@ -61,7 +64,7 @@ fn put_bit(out: &mut [u8], at: usize, head: u64, time: u64, word: u32) -> usize
 {
     if word % 2 == 1 {
         put_record(out, at, head, time);
-        at + 16
+        at + EVENT_SIZE
     } else {
         at
     }

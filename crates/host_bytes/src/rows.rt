@@ -13,7 +13,12 @@ use wire::number::put_u32;
 use wire::number::put_u64;
 use wire::real::to_pattern;
 
-// 32 bytes: four flags, a number of four bytes, three of eight.
+// Bytes of a row, and of a report.
+const ROW_SIZE: usize = 32;
+
+pub const REPORT_SIZE: usize = 7 * ROW_SIZE;
+
+// Four flags, a number of four bytes, three of eight.
 pub struct Row {
     pub one: bool,
     pub two: bool,
@@ -90,7 +95,7 @@ fn put_statuses(out: &mut [u8], start: usize, conditions: [Status; 6])
 {
     let mut i = 0;
     while i < 6 {
-        put_row(out, start + 32 * i, status_row(conditions[i]));
+        put_row(out, start + ROW_SIZE * i, status_row(conditions[i]));
         i += 1;
     }
 }
@@ -103,5 +108,5 @@ pub fn put_report(out: &mut [u8], at: usize, said: AlarmReport)
     let alarm = said.alarm;
     let conditions = said.conditions;
     put_row(out, at, whole_row(alarm, said.resettime));
-    put_statuses(out, at + 32, conditions);
+    put_statuses(out, at + ROW_SIZE, conditions);
 }

@@ -16,6 +16,7 @@ use layout::read::alarm_in;
 use layout::sizes::ALARM_WORDS;
 use layout::sizes::SETTINGS_HEAD;
 use settings::counts::Counts;
+use settings::counts::MOST;
 use settings::counts::are_good;
 use settings::refusals::IMAGE_TOO_LONG;
 use settings::refusals::NO_BANK;
@@ -50,6 +51,9 @@ use wire::real::put_real;
 
 // The bytes of the two counts.
 const COUNTS: usize = 2;
+
+// Bytes of the longest image.
+pub const IMAGE_MOST: usize = COUNTS + MOST * (DIGITAL_SIZE + ANALOG_SIZE);
 
 // The length of the image that was written, or the refusal.
 pub enum Written {

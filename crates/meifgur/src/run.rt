@@ -6,6 +6,7 @@ use layout::sizes::MARKS_WORDS;
 use layout::sizes::SETTINGS_WORDS;
 use layout::sizes::STATES_WORDS;
 use libc::STDIN_FILENO;
+use scan::scan::EVENTS_ENOUGH;
 use scan::scan::scan;
 use scan_record::check::record_length;
 use text::input::BLOCK_SIZE;
@@ -16,9 +17,6 @@ use text::pieces::finish;
 use text::pieces::goes_on;
 use text::pieces::next_piece;
 use text::pieces::no_piece;
-
-// Bytes that suffice for the events of a scan.
-const EVENTS_ROOM: usize = 3840;
 
 // How many bytes a record for a bank has.
 fn size_for(settings: &[u64; SETTINGS_WORDS]) -> usize {
@@ -34,7 +32,7 @@ fn run_record(
     text: &mut [u8; TEXT_SIZE],
     waiting: usize,
 ) -> usize {
-    let mut events = [0u8; EVENTS_ROOM];
+    let mut events = [0u8; EVENTS_ENOUGH];
     let answer = scan(settings, states, marks, bytes, &mut events);
     add_answer(text, waiting, answer, &events)
 }

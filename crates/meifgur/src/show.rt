@@ -3,6 +3,7 @@ ghost use Prim.Native.Nat.{_≤_};
 ghost use lib.ListN.{length};
 use bank_text::answers::add_conditions;
 use bank_text::answers::add_refused;
+use event::write::EVENT_SIZE;
 use layout::block::counts_in;
 use layout::sizes::MARKS_WORDS;
 use layout::sizes::SETTINGS_WORDS;
@@ -18,9 +19,6 @@ use text::output::add_byte;
 use text::show::add_form;
 use wire::number::get_u16;
 use wire::number::get_u64;
-
-// Bytes of an event record.
-const EVENT_SIZE: usize = 16;
 
 fn wide(byte: u8) -> u64 {
     byte as u64

@@ -59,7 +59,7 @@ extern "C" {
 #endif
 
 /* Sizes as constants, for buffers. meifgur_sizes_agree below compares them with the archive's: ask it once. */
-#define MEIFGUR_VERSION 2u
+#define MEIFGUR_VERSION 3u
 #define MEIFGUR_ALARMS_MOST 24u     /* 12 of each kind */
 #define MEIFGUR_IMAGE_MOST 842u     /* bytes of the longest settings image */
 #define MEIFGUR_EVENT_SIZE 16u      /* bytes of an event record */

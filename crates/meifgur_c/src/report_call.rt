@@ -13,6 +13,7 @@ use crate::answers::REPORT_ANSWER;
 use crate::answers::SHORT_ANSWER;
 use crate::answers::SHORT_REPORT;
 use crate::answers::put_reply;
+use host_bytes::rows::REPORT_SIZE;
 use host_bytes::rows::put_report;
 use report::report::AlarmReport;
 use report::report::report;
@@ -50,7 +51,7 @@ pub extern "C" fn meifgur_report_words(
     if answer.len() < REPORT_ANSWER {
         return SHORT_ANSWER;
     }
-    if out.len() < 224 {
+    if out.len() < REPORT_SIZE {
         return SHORT_REPORT;
     }
     let said = report(settings, states, marks, alarm);

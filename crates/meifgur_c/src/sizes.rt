@@ -2,15 +2,22 @@
 ghost use mathlib.Core.Path.{_≡_};
 ghost use Rattle.layout.specs.Internal.Sizes.{marksSize, settingsSize, statesSize};
 ghost use Rattle.scan_record.specs.Internal.Size.{lengthOf};
+use event::write::EVENT_SIZE;
+use host_bytes::rows::REPORT_SIZE;
+use image::write::IMAGE_MOST;
+use layout::sizes::MARKS_WORDS;
+use layout::sizes::SETTINGS_WORDS;
+use layout::sizes::STATES_WORDS;
+use scan::scan::EVENTS_ENOUGH;
 use scan_record::check::record_length;
 use settings::counts::Counts;
 
 // Of these calls and their layouts.
 #[no_mangle]
 pub extern "C" fn meifgur_version() -> u32
-    ensures { λ r. ⌜ r ≡ 2 ⌝ }
+    ensures { λ r. ⌜ r ≡ 3 ⌝ }
 {
-    2
+    3
 }
 
 // Bytes of an event record (`length-event` of crates/event).
@@ -18,7 +25,7 @@ pub extern "C" fn meifgur_version() -> u32
 pub extern "C" fn meifgur_event_size() -> u32
     ensures { λ r. ⌜ r ≡ 16 ⌝ }
 {
-    16
+    EVENT_SIZE as u32
 }
 
 // Bytes of events that always suffice for one scan (`enough` of crates/bank_history).
@@ -26,7 +33,7 @@ pub extern "C" fn meifgur_event_size() -> u32
 pub extern "C" fn meifgur_events_enough() -> u32
     ensures { λ r. ⌜ r ≡ 3840 ⌝ }
 {
-    3840
+    EVENTS_ENOUGH as u32
 }
 
 // Bytes of the longest settings image (`longest` of crates/image).
@@ -34,7 +41,7 @@ pub extern "C" fn meifgur_events_enough() -> u32
 pub extern "C" fn meifgur_image_most() -> u32
     ensures { λ r. ⌜ r ≡ 842 ⌝ }
 {
-    842
+    IMAGE_MOST as u32
 }
 
 // Bytes of an alarm's report (`length-report`).
@@ -42,7 +49,7 @@ pub extern "C" fn meifgur_image_most() -> u32
 pub extern "C" fn meifgur_report_size() -> u32
     ensures { λ r. ⌜ r ≡ 224 ⌝ }
 {
-    224
+    REPORT_SIZE as u32
 }
 
 // Words of a bank's settings, of its states, and of its counts and stamps (the lengths that `fitOf` of crates/bank asks for).
@@ -50,21 +57,21 @@ pub extern "C" fn meifgur_report_size() -> u32
 pub extern "C" fn meifgur_settings_words() -> u32
     ensures { λ r. ⌜ r ≡ settingsSize ⌝ }
 {
-    292
+    SETTINGS_WORDS as u32
 }
 
 #[no_mangle]
 pub extern "C" fn meifgur_states_words() -> u32
     ensures { λ r. ⌜ r ≡ statesSize ⌝ }
 {
-    580
+    STATES_WORDS as u32
 }
 
 #[no_mangle]
 pub extern "C" fn meifgur_marks_words() -> u32
     ensures { λ r. ⌜ r ≡ marksSize ⌝ }
 {
-    900
+    MARKS_WORDS as u32
 }
 
 // Bytes of a scan record, for so many alarms of each kind.

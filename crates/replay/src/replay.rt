@@ -6,6 +6,7 @@ ghost use Rattle.layout.specs.Internal.Sizes.{marksSize, settingsSize, statesSi
 ghost use Rattle.bank.specs.Internal.Words.{wordsIn};
 ghost use Rattle.replay.specs.Replay.{noneYet, counted, replied, replayOf, replayedOf, replayedWords, replayedBuffer};
 use bank::fit::fit;
+use event::write::EVENT_SIZE;
 use layout::block::counts_in;
 use scan::answer::Answer;
 use scan::scan::scan;
@@ -138,7 +139,7 @@ fn run(
     while at < bytes.len() {
         let end = end_of(at, size, bytes.len());
         let rec = &bytes[at..end];
-        let used = 16 * done.events;
+        let used = EVENT_SIZE * done.events;
         let left = &mut out[used..];
         let answer = scan(settings, states, marks, rec, left);
         done = count_answer(done, answer, index);

@@ -12,22 +12,32 @@ use crate::answer::Answer;
 use crate::copy::copy_bytes;
 use crate::copy::copy_words;
 use bank::fit::fit;
+use event::write::EVENT_SIZE;
 use layout::block::counts_in;
 use layout::sizes::MARKS_WORDS;
 use layout::sizes::STATES_WORDS;
 use scan_record::check::check_record;
 use settings::counts::Counts;
+use settings::counts::MOST;
 use settings::refusals::EVENTS_TOO_LONG;
 use settings::reply::Refusal;
 use settings::reply::Reply;
 use sweep::alarms::scan_alarms;
 
-// Bytes of events that a scan has at most: 5 events of a digital alarm, 15 of an analog one.
+// Bytes of events that an alarm has at most in a scan: 5 events of a digital one, 15 of an analog one.
+const DIGITAL_MOST: usize = 5 * EVENT_SIZE;
+
+const ANALOG_MOST: usize = 15 * EVENT_SIZE;
+
+// Bytes that suffice for the events of every scan.
+pub const EVENTS_ENOUGH: usize = MOST * (DIGITAL_MOST + ANALOG_MOST);
+
+// Bytes of events that a scan of so many alarms has at most.
 fn most_bytes(counts: Counts) -> usize
     requires { ⌜ Few counts ⌝ }
     ensures { λ r. ⌜ r ≡ mostBytes counts ⌝ }
 {
-    80 * counts.digital + 240 * counts.analog
+    DIGITAL_MOST * counts.digital + ANALOG_MOST * counts.analog
 }
 
 // The events of a scan need more bytes than the buffer has.
@@ -64,7 +74,7 @@ fn scan_short(
     copy_words(states, &mut stepped);
     let mut marked = [0; MARKS_WORDS];
     copy_words(marks, &mut marked);
-    let mut events = [0; 3840];
+    let mut events = [0; EVENTS_ENOUGH];
     let used = scan_alarms(
         settings,
         &mut stepped,
@@ -79,7 +89,7 @@ fn scan_short(
     copy_words(&stepped, states);
     copy_words(&marked, marks);
     copy_bytes(&events, out, used);
-    Answer::Events(used / 16)
+    Answer::Events(used / EVENT_SIZE)
 }
 
 // Checks a record and runs it, on words that are a bank's.
@@ -109,7 +119,7 @@ fn scan_bank(
         return scan_short(settings, states, marks, bytes, out, counts);
     }
     let used = scan_alarms(settings, states, marks, bytes, out, counts);
-    Answer::Events(used / 16)
+    Answer::Events(used / EVENT_SIZE)
 }
 
 // Runs one scan in place: fills the front of `out` with its events, or refuses and leaves every word and byte.

@@ -122,5 +122,6 @@ pub accepted-says : (counts : Counts) (last : ℕ) (rec : List ℕ) → checkRec
     → Whole counts (length rec) × (last ≤ timeOf rec) × (checkFrom rec counts (inAll counts) 0 8 ≡ Accepted)
 unfolding checkRecord
 accepted-says counts last rec e =
-    let t = passed (areGood counts && eqb (length rec) (recordSize counts)) (ltb (timeOf rec) last) (refusal 8 0) (refusal 7 0) (checkFrom rec counts (inAll counts) 0 8) e in
+    let t = passed (areGood counts && eqb (length rec) (recordSize counts)) (ltb (timeOf rec) last) (refusal 8 0) (refusal 7 0)
+    (checkFrom rec counts (inAll counts) 0 8) e in
     (whole-says counts (length rec) (t .0), ltb-false (timeOf rec) last (t .1), t .2)

@@ -27,8 +27,18 @@ cell-back a p q HH = rw (bit-word (analogFlags a) (conditionBit 0 0), bit-word (
 cell-back a p q H = rw (bit-word (analogFlags a) (conditionBit 1 0), bit-word (analogFlags a) (conditionBit 1 1), bit-word (analogFlags a) (conditionBit 1 2))
 cell-back a p q L = rw (bit-word (analogFlags a) (conditionBit 2 0), bit-word (analogFlags a) (conditionBit 2 1), bit-word (analogFlags a) (conditionBit 2 2))
 cell-back a p q LL = rw (bit-word (analogFlags a) (conditionBit 3 0), bit-word (analogFlags a) (conditionBit 3 1), bit-word (analogFlags a) (conditionBit 3 2))
-cell-back a p q ROCPos = rw (bit-word (analogFlags a) (conditionBit 4 0), bit-word (analogFlags a) (conditionBit 4 1), bit-word (analogFlags a) (conditionBit 4 2))
-cell-back a p q ROCNeg = rw (bit-word (analogFlags a) (conditionBit 5 0), bit-word (analogFlags a) (conditionBit 5 1), bit-word (analogFlags a) (conditionBit 5 2))
+cell-back a p q ROCPos = rw (
+  bit-word (analogFlags a) (conditionBit 4 0),
+  bit-word (analogFlags a) (conditionBit 4 1),
+  bit-word (analogFlags a)
+      (conditionBit 4 2),
+)
+cell-back a p q ROCNeg = rw (
+  bit-word (analogFlags a) (conditionBit 5 0),
+  bit-word (analogFlags a) (conditionBit 5 1),
+  bit-word (analogFlags a)
+      (conditionBit 5 2),
+)
 
 pub look-packed : {X : Type 0} (v : Patterns X) (a : AnalogHeld X) (p q : ℕ) → v .value p ≡ a .sample .value → v .value q ≡ a .sample .rate
     → lookAnalog v (hideAnalog a p q) ≡ a

@@ -45,7 +45,8 @@ six-kept a b c d e f time at ws h₁ h₂ h₃ h₄ h₅ h₆ =
     let n5 : at + 5 ≡ suc (suc (suc (suc (suc at)))) = omega arith in
     (rw n5 at h₆) ∙ ap (keepStart f time (suc (suc (suc (suc (suc at))))))
     ((rw n4 at h₅) ∙ ap (keepStart e time (suc (suc (suc (suc at)))))
-    ((rw n3 at h₄) ∙ ap (keepStart d time (suc (suc (suc at)))) ((rw n2 at h₃) ∙ ap (keepStart c time (suc (suc at))) ((rw n1 at h₂) ∙ ap (keepStart b time (suc at)) h₁))))
+    ((rw n3 at h₄) ∙ ap (keepStart d time (suc (suc (suc at)))) ((rw n2 at h₃) ∙ ap (keepStart c time (suc (suc at))) ((rw n1 at h₂)
+    ∙ ap (keepStart b time (suc at)) h₁))))
 
 -- two, and then others
 pub two-kept : (a b : Bool) (bs : List Bool) (time at : ℕ) (ws : List ℕ) {l m n : List ℕ} → l ≡ keepStart a time at ws → m ≡ keepStart b time (at + 1) l

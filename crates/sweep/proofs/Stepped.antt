@@ -92,4 +92,5 @@ module _ (number : ℕ) (a : Alarm) (s after : State) (x : Reading) (word time :
       ≡ eventsFrom number (a .kind) (bit (after .flags) 1) time 0 (analogEvents reals (realAnalog a) x word time (lookAnalog realPatterns s))
   unfolding analogStep
   analog-log =
-      events-bits number (a .kind) (bit (after .flags) 1) time wordBits 0 (analogEvents reals (realAnalog a) x word time (lookAnalog realPatterns s)) (omega arith)
+      events-bits number (a .kind) (bit (after .flags) 1) time wordBits 0 (analogEvents reals (realAnalog a) x word time (lookAnalog realPatterns s))
+      (omega arith)

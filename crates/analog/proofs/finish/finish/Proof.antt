@@ -33,7 +33,8 @@ returns c =
     c .before .before .before .before .before .before .before .decide .ensures .0
     ∙ c .before .before .before .before .before .before .before .before .before .before .due-in .ensures .alike on (a .frees)
     (c .before .before .before .before .before .before .before .before .ack-word .result) (a .required)
-    ∙ (λ i. cellsOf (low i) on (a .met) (a .frees) (readyIn (low i) (getD ws (a .at + 3) 0) (getD ws (a .at + 4) 0) (a .duration) (a .time)) (acks i) (a .required))
+    ∙ (λ i. cellsOf (low i) on (a .met) (a .frees) (readyIn (low i) (getD ws (a .at + 3) 0) (getD ws (a .at + 4) 0) (a .duration) (a .time)) (acks i)
+    (a .required))
     in
     let begun =
     c .before .before .before .before .before .begin-all .ensures ∙ ap (λ (f : ℕ). keepStarts (allBegin f on (a .met)) (a .time) (a .at + 3) ws) low in

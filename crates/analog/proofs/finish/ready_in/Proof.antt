@@ -7,7 +7,11 @@ use Rattle.analog.proofs.finish.ready_in.Tie as tie
 
 returns : tie.Need-returns
 unfolding readyBits
-returns c = rw (← c .before .before .before .before .choose .ensures, ← c .before .before .before .choose2 .ensures, ← c .before .before .lasted .ensures, ← c .before .lasted2 .ensures) (c .spread6 .ensures)
+returns c =
+    let second = c .before in
+    let first = second .before in
+    let below = first .before in
+    rw (← below .before .choose .ensures, ← below .choose2 .ensures, ← first .lasted .ensures, ← second .lasted2 .ensures) (c .spread6 .ensures)
 
 pub ready-in-spec : {M : Type 1} → statement M
 ready-in-spec =

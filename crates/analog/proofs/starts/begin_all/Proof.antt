@@ -58,7 +58,8 @@ returns-2 c = let a = c .before .before .before .before .before .before .before 
     let w = c .before .before .before .before .before .before .before .before .before .before .before .before .before .rows-begin .result in
     let bits = c .before .before .before .before .before .before .before .before .before .before .before .before .before .rows-begin .ensures in
     rw (← bits .0, ← bits .1, ← bits .2, ← bits .3, ← bits .4, ← bits .5, bit-zero (a .met))
-    (two-kept (a .enabled && (eqb (a .met % 2) 1 || bit (a .met) 3) && not (bit (a .flags) 4)) (a .enabled && (bit (a .met) 6 || bit (a .met) 9) && not (bit (a .flags) 5))
+    (two-kept (a .enabled && (eqb (a .met % 2) 1 || bit (a .met) 3) && not (bit (a .flags) 4))
+    (a .enabled && (bit (a .met) 6 || bit (a .met) 9) && not (bit (a .flags) 5))
     (bit w 0 ∷ bit w 3 ∷ bit w 6 ∷ bit w 9 ∷ bit w 12 ∷ bit w 15 ∷ []) (a .time) (a .at) (now (a .states))
     (c .before .before .before .before .before .before .before .before .before .before .begin .ensures)
     (c .before .before .before .before .before .before .begin2 .ensures) (c .before .before .begin-rows .ensures))

@@ -11,12 +11,17 @@ use Rattle.analog.proofs.starts.begin_rows.Tie as tie
 
 returns : tie.Need-returns
 returns c =
-    let half = c .before .before .before .before .before .before .before .before .before .before .before .before in
-    let a = half .before .before .before .before .before .before .before .before .before .before .before .before .before .args in
+    let sixth = c .before .before in
+    let fifth = sixth .before .before .before .before in
+    let fourth = fifth .before .before .before .before in
+    let third = fourth .before .before .before .before in
+    let second = third .before .before .before .before in
+    let first = second .before .before .before .before in
+    let a = first .before .before .before .args in
     let w = a .begins in
     rw (bit-zero w)
-    (six-kept (eqb (w % 2) 1) (bit w 3) (bit w 6) (bit w 9) (bit w 12) (bit w 15) (a .time) (a .at) (now (a .states)) (c .before .before .before .before .before .before .before .before .before .before .before .before .before .before .before .before .before .before .before .before .before .before .begin .ensures)
-    (c .before .before .before .before .before .before .before .before .before .before .before .before .before .before .before .before .before .before .begin2 .ensures) (c .before .before .before .before .before .before .before .before .before .before .before .before .before .before .begin3 .ensures) (c .before .before .before .before .before .before .before .before .before .before .begin4 .ensures) (c .before .before .before .before .before .before .begin5 .ensures) (c .before .before .begin6 .ensures))
+    (six-kept (eqb (w % 2) 1) (bit w 3) (bit w 6) (bit w 9) (bit w 12) (bit w 15) (a .time) (a .at) (now (a .states)) (first .begin .ensures)
+    (second .begin2 .ensures) (third .begin3 .ensures) (fourth .begin4 .ensures) (fifth .begin5 .ensures) (sixth .begin6 .ensures))
 
 pub begin-rows-spec : {M : Type 1} → statement M
 begin-rows-spec =

@@ -62,7 +62,8 @@ returns c =
     in
     let stored =
     sampled .resample .ensures .1
-    ∙ (λ i. sets ws (g .at + 1) (sampleIn (low i) on (per i) first (getD ws (two i) 0) (value i) (g .time) ∷ sampledIn (low i) (per i) (getD ws (two i) 0) (g .time) ∷ []))
+    ∙ (λ i. sets ws (g .at + 1) (sampleIn (low i) on (per i) first (getD ws (two i) 0) (value i) (g .time) ∷ sampledIn (low i) (per i) (getD ws (two i) 0)
+    (g .time) ∷ []))
     in
     let real = met-at .before .from-pattern .ensures ∙ ap (ofBits binary32) rate ∙ rate-real a ws (g .at) x (g .word) (g .time) e in
     let set = met-at .before .before .before .flags-in .ensures in
@@ -121,7 +122,8 @@ returns-2 c =
     in
     let stored =
     sampled .resample .ensures .1
-    ∙ (λ i. sets ws (g .at + 1) (sampleIn (low i) on (per i) first (getD ws (two i) 0) (value i) (g .time) ∷ sampledIn (low i) (per i) (getD ws (two i) 0) (g .time) ∷ []))
+    ∙ (λ i. sets ws (g .at + 1) (sampleIn (low i) on (per i) first (getD ws (two i) 0) (value i) (g .time) ∷ sampledIn (low i) (per i) (getD ws (two i) 0)
+    (g .time) ∷ []))
     in
     let real = met-at .before .from-pattern .ensures ∙ ap (ofBits binary32) rate ∙ rate-real a ws (g .at) x (g .word) (g .time) e in
     let set = met-at .before .before .before .flags-in .ensures in

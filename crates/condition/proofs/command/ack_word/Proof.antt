@@ -18,8 +18,11 @@ returns c = (sym (ap (λ (w : ℕ). wordOf (spread (ackBits w (c .before .args .
 
 returns-2 : tie.Need-returns-2
 returns-2 c =
-    let a = c .before .before .before .args in
-    (c .spread6 .ensures .0 ∙ ap (λ (l : List Bool). wordOf (spread l)) (acks-are (a .word) (a .previous) (c .before .acks-all .ensures)), c .spread6 .ensures .1)
+    let a = c .before .before .before .args in (
+      c .spread6 .ensures .0 ∙ ap (λ (l : List Bool). wordOf (spread l)) (acks-are (a .word) (a .previous) (c .before .acks-all .ensures)),
+      c .spread6 .ensures
+          .1,
+    )
 
 pub ack-word-spec : {M : Type 1} → statement M
 ack-word-spec = tie.close (tie.spec returns (λ c κs. search needs) (λ c κs. search needs) returns-2)

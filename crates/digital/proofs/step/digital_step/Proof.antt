@@ -64,7 +64,8 @@ returns-2 c =
     let met′ = half .before .before .before .before .before .before .before .before .before .is-bit .ensures ∙ ap (λ (b : Bool). isBit b x) watched in
     let reset = c .before .before .before .before .before .before .before .before .before .before .resets-one .ensures ∙ ap (resets (g .word)) up in
     let start =
-    c .before .before .before .before .before .before .before .before .before .choose .ensures ∙ ap (λ (f : ℕ). cond (bit f (conditionBit 0 2)) (s .hh) (g .time)) low in
+    c .before .before .before .before .before .before .before .before .before .choose .ensures
+    ∙ ap (λ (f : ℕ). cond (bit f (conditionBit 0 2)) (s .hh) (g .time)) low in
     let ready =
     c .before .before .before .before .before .before .before .lasted .ensures
     ∙ (λ i. leb (c .before .before .before .before .before .before .before .before .duration-in .ensures i) (g .time - start i)) in
@@ -75,12 +76,23 @@ returns-2 c =
     ≡ wordOf (outcomeBits (digitalTold a x (g .word) (g .time) (lookDigital s)) (bit (s .flags) (conditionBit 0 0)) (bit (s .flags) (conditionBit 0 1))) =
     c .before .before .before .before .before .condition .ensures .0
     ∙ (λ i.
-    wordOf (outcomeBits (record { enabled = not (disabled i); met = met′ i; frees = not (bit (set i) 2) || reset i; ready = ready i; ack = ack i; required = bit (set i) 1 }) (alarm i) (unacked i)))
+    wordOf (outcomeBits (record {
+      enabled = not (disabled i);
+      met = met′ i;
+      frees = not (bit (set i) 2) || reset i;
+      ready = ready i;
+      ack = ack i;
+      required =
+          bit (set i) 1;
+    }) (alarm i) (unacked i)))
     in
     let flags = digital-flags a s x (g .word) (g .time) m outcome in
     let events = digital-events a s x (g .word) (g .time) m outcome in
-    let first = c .before .before .before .before .pair .ensures .0 ∙ ap (λ (f : ℕ). pairOf f (g .word)) flags in
-    (events, c .before .before .keep .ensures ∙ digital-done ws (g .at) (digitalAfter a x (g .word) (g .time) (lookDigital s)) refl (λ i. cond ((not (disabled i) && met′ i) && not (bit (low i) (conditionBit 0 2))) (g .time) (s .hh)) first)
+    let first = c .before .before .before .before .pair .ensures .0 ∙ ap (λ (f : ℕ). pairOf f (g .word)) flags in (
+      events,
+      c .before .before .keep .ensures ∙ digital-done ws (g .at) (digitalAfter a x (g .word) (g .time) (lookDigital s)) refl
+          (λ i. cond ((not (disabled i) && met′ i) && not (bit (low i) (conditionBit 0 2))) (g .time) (s .hh)) first,
+    )
 
 pub digital-step-spec : {M : Type 1} → statement M
 digital-step-spec =

@@ -15,7 +15,8 @@ use Rattle.event.proofs.write.put_condition.Tie as tie
 returns : tie.Need-returns
 returns c =
     let a = c .before .before .before .args in
-    let e = no-log (a .number) (kindIn (a .form) (now (a .settings)) (a .from)) (a .suppressed) (a .time) (conditionBit (a .place) 0) (a .word) (c .if1 .taken) in
+    let e = no-log (a .number) (kindIn (a .form) (now (a .settings)) (a .from)) (a .suppressed) (a .time) (conditionBit (a .place) 0) (a .word)
+    (c .if1 .taken) in
     (rw e (sym (add-zero _)), rw e)
 
 put-three-requires : tie.Need-put-three-requires

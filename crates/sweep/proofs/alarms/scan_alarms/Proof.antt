@@ -49,7 +49,8 @@ scan-form-requires-2 c κs =
     let d : a .counts .digital ≡ countsIn (now (a .settings)) .digital = ap (λ (k : Counts). k .digital) (r .counts-are) in
     let rec : List ℕ = now (a .bytes) in
     let w : Words = wordsIn (now (a .settings)) (now (a .states)) (now (a .marks)) in
-    let log : length (logFrom _ rec (a .counts .digital) (a .counts .analog)) ≡ length (logFrom (half w rec (a .counts .digital)) rec (a .counts .digital) (a .counts .analog)) =
+    let log : length (logFrom _ rec (a .counts .digital) (a .counts .analog)) ≡ length (logFrom (half w rec (a .counts .digital)) rec (a .counts .digital)
+    (a .counts .analog)) =
     λ i. length (logFrom (wordsIn (now (a .settings)) (e .1 .0 i) (e .1 .1 .0 i)) rec (a .counts .digital) (a .counts .analog)) in
     let most = room-most w rec (a .counts) (r .counts-are) in
     let out = ap length (e .1 .1 .1) ∙ length-sets (now (a .out)) 0 (logFrom w rec 0 (a .counts .digital)) in (
@@ -111,8 +112,10 @@ returns c =
     let log = ap (λ (v : Words). logFrom v rec d (a .counts .analog)) then in
     let n : d + a .counts .analog ≡ countIn (now (a .settings)) = ap inAll (r .counts-are) in
     let used = zero-add (length (logFrom w rec 0 d)) in
-    let states = f .1 .0 ∙ ap (λ (v : Words). steppedFrom v rec d (a .counts .analog)) then ∙ states-whole w rec d (a .counts .analog) ∙ ap (steppedFrom w rec 0) n in
-    let marks = f .1 .1 .0 ∙ ap (λ (v : Words). markedFrom v rec d (a .counts .analog)) then ∙ marks-whole w rec d (a .counts .analog) ∙ ap (markedFrom w rec 0) n in (
+    let states = f .1 .0 ∙ ap (λ (v : Words). steppedFrom v rec d (a .counts .analog)) then ∙ states-whole w rec d (a .counts .analog)
+    ∙ ap (steppedFrom w rec 0) n in
+    let marks = f .1 .1 .0 ∙ ap (λ (v : Words). markedFrom v rec d (a .counts .analog)) then ∙ marks-whole w rec d (a .counts .analog)
+    ∙ ap (markedFrom w rec 0) n in (
       f .0
           ∙ (λ i. (e .0 ∙ used) i + length (log i))
           ∙ length-whole w rec d (a .counts .analog)
