@@ -13,9 +13,11 @@ eachMost = 12
 abbrev pub allMost : ℕ
 allMost = 24
 
+-- a bank may have so many of each
 abbrev pub areGood : Counts → Bool
 areGood counts = leb (counts .digital) eachMost && leb (counts .analog) eachMost
 
+-- how many there are together
 abbrev pub inAll : Counts → ℕ
 inAll counts = counts .digital + counts .analog
 
