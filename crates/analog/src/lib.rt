@@ -1,4 +1,6 @@
 // One scan of an analog alarm, on the words that it keeps.
+#![tactic(auto)]
+
 pub mod finish;
 pub mod masks;
 pub mod starts;

@@ -15,7 +15,7 @@ pub const WRITE: usize = 4;
 
 // A call by its name's place, with what its words spell, each at its kind's place; bytes stand in a buffer beside it. Of a line that is
 // no call: what is wrong, and which word is bad, counted from 1.
-#[derive(Drop)]
+#[derive(Clone, Copy)]
 pub struct Call {
     pub name: usize,
     pub values: [usize; 8],

@@ -27,6 +27,7 @@ pub const COMMENT: usize = 9;
 
 // Adds the reply to a line that is no call: a comment as it is, or which word is bad, counted from 1, and why.
 pub fn add_fault(
+    rt: &(impl Print + Eprint),
     text: &mut [u8; TEXT_SIZE],
     waiting: usize,
     line: &[u8],
@@ -34,9 +35,9 @@ pub fn add_fault(
     fault: usize,
 ) -> usize {
     if fault == COMMENT {
-        return add(text, waiting, line);
+        return add(rt, text, waiting, line);
     }
     let forms =
         b"bad line: over 20000 characters|bad word A: no such call|bad word A: missing|bad word A: one too many|bad word A: no number of up to 64 bits|bad word A: over 65536|bad word A: no role but -|bad word A: no bytes in hexadecimal";
-    add_form(text, waiting, word(forms, b'|', fault), &[bad as u64])
+    add_form(rt, text, waiting, word(forms, b'|', fault), &[bad as u64])
 }

@@ -21,7 +21,7 @@ pub const MOST_ROOM: usize = 65536;
 pub const BYTES_SIZE: usize = PIECE_SIZE / 2;
 
 // The number that a word spells, or how many bytes; and what is wrong with it.
-#[derive(Drop)]
+#[derive(Clone, Copy)]
 pub struct Spelling {
     pub value: usize,
     pub fault: usize,

@@ -18,7 +18,7 @@ pub const NO_BYTES: usize = 3;
 
 // The answer to a call that is lent a buffer: whether it is accepted, and then the place of its form, a number, and how many bytes at
 // the buffer's front it wrote.
-#[derive(Drop)]
+#[derive(Clone, Copy)]
 pub struct Said {
     pub reply: Reply,
     pub form: usize,
@@ -27,25 +27,42 @@ pub struct Said {
 }
 
 // Adds the answer to an accepted call.
-fn add_accepted(text: &mut [u8; TEXT_SIZE], waiting: usize, said: Said, lent: &[u8]) -> usize {
+fn add_accepted(
+    rt: &(impl Print + Eprint),
+    text: &mut [u8; TEXT_SIZE],
+    waiting: usize,
+    said: Said,
+    lent: &[u8],
+) -> usize {
     let form = word(b"ok A|ok A |ok A -", b'|', said.form);
-    let at = add_form(text, waiting, form, &[said.number]);
-    add_pairs(text, at, part(lent, 0, said.length))
+    let at = add_form(rt, text, waiting, form, &[said.number]);
+    add_pairs(rt, text, at, part(lent, 0, said.length))
 }
 
 // Adds the answer to a call, and whether it touched more of a lent buffer than it may.
-pub fn add_said(text: &mut [u8; TEXT_SIZE], waiting: usize, said: Said, lent: &[u8]) -> usize {
+pub fn add_said(
+    rt: &(impl Print + Eprint),
+    text: &mut [u8; TEXT_SIZE],
+    waiting: usize,
+    said: Said,
+    lent: &[u8],
+) -> usize {
     let reply = said.reply;
     let at = match reply {
-        Reply::Accepted => add_accepted(text, waiting, said, lent),
-        Reply::Refused(refusal) => add_refused(text, waiting, refusal),
+        Reply::Accepted => add_accepted(rt, text, waiting, said, lent),
+        Reply::Refused(refusal) => add_refused(rt, text, waiting, refusal),
     };
     let more = touched(lent, said.length);
-    add(text, at, word(b" touched", b'|', more))
+    add(rt, text, at, word(b" touched", b'|', more))
 }
 
 // Adds a report's front: modes, count reset stamp, rate and elapsed runs.
-fn add_whole(text: &mut [u8; TEXT_SIZE], waiting: usize, found: AlarmReport) -> usize {
+fn add_whole(
+    rt: &(impl Print + Eprint),
+    text: &mut [u8; TEXT_SIZE],
+    waiting: usize,
+    found: AlarmReport,
+) -> usize {
     let numbers = [
         to_pattern(found.alarm.rate) as u64,
         found.alarm.enabled as u64,
@@ -56,11 +73,12 @@ fn add_whole(text: &mut [u8; TEXT_SIZE], waiting: usize, found: AlarmReport) -> 
         found.alarm.high,
         found.alarm.low,
     ];
-    add_form(text, waiting, b"ok B C D E F @ G H", &numbers)
+    add_form(rt, text, waiting, b"ok B C D E F @ G H", &numbers)
 }
 
 // Adds a report of an alarm.
 pub fn add_report(
+    rt: &(impl Print + Eprint),
     text: &mut [u8; TEXT_SIZE],
     waiting: usize,
     found: AlarmReport,
@@ -70,9 +88,9 @@ pub fn add_report(
     let conditions = found.conditions;
     match reply {
         Reply::Accepted => {
-            let at = add_whole(text, waiting, found);
-            add_conditions(text, at, b" / A B C E F G H", 0, is_digital, conditions)
+            let at = add_whole(rt, text, waiting, found);
+            add_conditions(rt, text, at, b" / A B C E F G H", 0, is_digital, conditions)
         }
-        Reply::Refused(refusal) => add_refused(text, waiting, refusal),
+        Reply::Refused(refusal) => add_refused(rt, text, waiting, refusal),
     }
 }

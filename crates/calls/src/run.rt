@@ -90,6 +90,7 @@ fn run_write(settings: &[u64], lent: &mut [u8]) -> Said {
 }
 
 fn run_report(
+    rt: &(impl Print + Eprint),
     settings: &[u64; SETTINGS_WORDS],
     states: &[u64; STATES_WORDS],
     marks: &[u64; MARKS_WORDS],
@@ -99,7 +100,7 @@ fn run_report(
 ) -> usize {
     let found = report(settings, states, marks, alarm);
     let counts = counts_in(settings);
-    add_report(text, waiting, found, alarm <= counts.digital)
+    add_report(rt, text, waiting, found, alarm <= counts.digital)
 }
 
 // Runs a call that is lent a buffer. `bytes` has what it hands on.
@@ -120,6 +121,7 @@ fn run_lent(
 
 // Lends a call its buffer, runs and answers it. `bytes` has what it hands on.
 fn run_call(
+    rt: &(impl Print + Eprint),
     settings: &mut [u64; SETTINGS_WORDS],
     states: &mut [u64; STATES_WORDS],
     marks: &mut [u64; MARKS_WORDS],
@@ -134,11 +136,12 @@ fn run_call(
     fill(lent);
     let given = part(bytes, 0, call.values[BYTES]);
     let said = run_lent(settings, states, marks, call.name, given, lent);
-    add_said(text, waiting, said, lent)
+    add_said(rt, text, waiting, said, lent)
 }
 
 // Runs and answers a line.
 pub fn run_line(
+    rt: &(impl Print + Eprint),
     settings: &mut [u64; SETTINGS_WORDS],
     states: &mut [u64; STATES_WORDS],
     marks: &mut [u64; MARKS_WORDS],
@@ -150,10 +153,18 @@ pub fn run_line(
     let mut bytes = [0u8; BYTES_SIZE];
     let call = call_of(line, is_cut, &mut bytes);
     if call.fault != NONE {
-        return add_fault(text, waiting, line, call.bad, call.fault);
+        return add_fault(rt, text, waiting, line, call.bad, call.fault);
     }
     if call.name == REPORT {
-        return run_report(settings, states, marks, call.values[NUMBER], text, waiting);
+        return run_report(
+            rt,
+            settings,
+            states,
+            marks,
+            call.values[NUMBER],
+            text,
+            waiting,
+        );
     }
-    run_call(settings, states, marks, call, &bytes, text, waiting)
+    run_call(rt, settings, states, marks, call, &bytes, text, waiting)
 }

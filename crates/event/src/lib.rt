@@ -1,3 +1,5 @@
 // Event records: what an alarm's event bits say, in 16 bytes each.
+#![tactic(auto)]
+
 pub mod slot;
 pub mod write;

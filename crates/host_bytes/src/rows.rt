@@ -15,7 +15,7 @@ const ROW_SIZE: usize = 32;
 pub const REPORT_SIZE: usize = 7 * ROW_SIZE;
 
 // Four flags, a number of four bytes, three of eight.
-#[derive(Drop)]
+#[derive(Clone, Copy)]
 pub struct Row {
     pub one: bool,
     pub two: bool,

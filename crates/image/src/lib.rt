@@ -1,2 +1,4 @@
 // The image of settings: the writer, and the round trip through the reader.
+#![tactic(auto)]
+
 pub mod write;

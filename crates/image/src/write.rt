@@ -32,7 +32,7 @@ const COUNTS: usize = 2;
 pub const IMAGE_MOST: usize = COUNTS + MOST * (DIGITAL_SIZE + ANALOG_SIZE);
 
 // The length of the image that was written, or the refusal.
-#[derive(Drop)]
+#[derive(Clone, Copy)]
 pub enum Written {
     Length(usize),
     Refused(Refusal),

@@ -1,7 +1,9 @@
 // The settings image from its file.
-use libc::ENOENT;
+use std::fs::File;
+use std::io::ErrorKind;
+use std::rt::Files;
 use text::input::BLOCK_SIZE;
-use text::output::TEXT_SIZE;
+use text::output::{TEXT_SIZE, tell};
 use text::pieces::{next_piece, no_piece, tell_failure};
 
 // Bytes of the file that are read. An image has at most 842. Of a longer file these suffice: whatever refuses it stands among the first
@@ -10,16 +12,23 @@ const IMAGE_SIZE: usize = 1024;
 
 // Puts the front of a file into a block and answers its length. A missing file counts as no bytes. So does one that can't be
 // opened or read; standard error then has the reason.
-pub fn read_image(name: &[u8], block: &mut [u8; BLOCK_SIZE], text: &[u8; TEXT_SIZE]) -> usize {
-    let file = os::open_read(name);
-    if file < 0 {
-        if os::errno() != ENOENT {
-            os::fail(name);
+pub fn read_image(
+    rt: &(impl Files + Print + Eprint),
+    name: &str,
+    block: &mut [u8; BLOCK_SIZE],
+    text: &[u8; TEXT_SIZE],
+) -> usize {
+    match File::open(rt, name) {
+        Ok(mut file) => {
+            let image = next_piece(rt, &mut file, no_piece(IMAGE_SIZE), block, text);
+            tell_failure(rt, image, name.as_bytes());
+            image.end
         }
-        return 0;
+        Err(error) => {
+            if error.kind() != ErrorKind::NotFound {
+                tell(rt, name.as_bytes(), error);
+            }
+            0
+        }
     }
-    let image = next_piece(no_piece(file, IMAGE_SIZE), block, text);
-    tell_failure(image, name);
-    libc::close(file);
-    image.end
 }

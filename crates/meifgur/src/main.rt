@@ -1,5 +1,7 @@
 // Reads the settings of a bank from bank.set, runs the scan records of standard input on it, and prints events and refusals,
 // and at the end how each condition stands.
+#![tactic(auto)]
+
 mod bank_file;
 mod run;
 mod show;
@@ -25,18 +27,26 @@ fn load_bank(
     load(image, settings, states, marks)
 }
 
-fn main() {
+fn main(rt: HostRuntime) {
     let mut block = [0u8; BLOCK_SIZE];
     let mut text = [0u8; TEXT_SIZE];
     let mut settings = [0u64; SETTINGS_WORDS];
     let mut states = [0u64; STATES_WORDS];
     let mut marks = [0u64; MARKS_WORDS];
-    let length = read_image(b"bank.set", &mut block, &text);
+    let length = read_image(&rt, "bank.set", &mut block, &text);
     match load_bank(&mut settings, &mut states, &mut marks, &block, length) {
-        Reply::Accepted => run_input(&settings, &mut states, &mut marks, &mut block, &mut text),
+        Reply::Accepted => run_input(
+            &rt,
+            &settings,
+            &mut states,
+            &mut marks,
+            &mut block,
+            &mut text,
+            &mut rt.stdin(),
+        ),
         Reply::Refused(refusal) => {
-            let waiting = add_refused_line(&mut text, 0, refusal);
-            flush(&text, waiting);
+            let waiting = add_refused_line(&rt, &mut text, 0, refusal);
+            flush(&rt, &text, waiting);
         }
     }
 }

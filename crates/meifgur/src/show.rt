@@ -18,7 +18,12 @@ fn wide(byte: u8) -> u64 {
 }
 
 // Adds the line of an event record: time, alarm, condition, kind, severity, suppressed.
-fn add_event(text: &mut [u8; TEXT_SIZE], waiting: usize, event: &[u8]) -> usize
+fn add_event(
+    rt: &(impl Print + Eprint),
+    text: &mut [u8; TEXT_SIZE],
+    waiting: usize,
+    event: &[u8],
+) -> usize
     requires { 16 ≤ length event.now }
 {
     let numbers = [
@@ -29,16 +34,22 @@ fn add_event(text: &mut [u8; TEXT_SIZE], waiting: usize, event: &[u8]) -> usize
         get_u16(event, 4) as u64,
         wide(event[3]),
     ];
-    add_form(text, waiting, b"A B C D E F\n", &numbers)
+    add_form(rt, text, waiting, b"A B C D E F\n", &numbers)
 }
 
 // Adds the lines of the first `number` event records of a buffer.
-fn add_events(text: &mut [u8; TEXT_SIZE], waiting: usize, events: &[u8], number: usize) -> usize {
+fn add_events(
+    rt: &(impl Print + Eprint),
+    text: &mut [u8; TEXT_SIZE],
+    waiting: usize,
+    events: &[u8],
+    number: usize,
+) -> usize {
     let mut added = waiting;
     let mut at = 0;
     let mut left = number;
     while 0 < left && EVENT_SIZE <= events.len() - at {
-        added = add_event(text, added, &events[at..at + EVENT_SIZE]);
+        added = add_event(rt, text, added, &events[at..at + EVENT_SIZE]);
         at += EVENT_SIZE;
         left -= 1;
     }
@@ -46,21 +57,27 @@ fn add_events(text: &mut [u8; TEXT_SIZE], waiting: usize, events: &[u8], number:
 }
 
 // Adds the line of a refusal.
-pub fn add_refused_line(text: &mut [u8; TEXT_SIZE], waiting: usize, refusal: Refusal) -> usize {
-    let at = add_refused(text, waiting, refusal);
-    add_byte(text, at, b'\n')
+pub fn add_refused_line(
+    rt: &(impl Print + Eprint),
+    text: &mut [u8; TEXT_SIZE],
+    waiting: usize,
+    refusal: Refusal,
+) -> usize {
+    let at = add_refused(rt, text, waiting, refusal);
+    add_byte(rt, text, at, b'\n')
 }
 
 // Adds the events of a scan, which stand in `events`, or its refusal.
 pub fn add_answer(
+    rt: &(impl Print + Eprint),
     text: &mut [u8; TEXT_SIZE],
     waiting: usize,
     answer: Answer,
     events: &[u8],
 ) -> usize {
     match answer {
-        Answer::Events(number) => add_events(text, waiting, events, number),
-        Answer::Refused(refusal) => add_refused_line(text, waiting, refusal),
+        Answer::Events(number) => add_events(rt, text, waiting, events, number),
+        Answer::Refused(refusal) => add_refused_line(rt, text, waiting, refusal),
     }
 }
 
@@ -76,6 +93,7 @@ fn is_found(found: AlarmReport) -> bool {
 // Adds the lines of an alarm's conditions at the end: alarm, condition, in alarm, unacknowledged, count. No lines where no alarm has the
 // number.
 fn add_alarm(
+    rt: &(impl Print + Eprint),
     text: &mut [u8; TEXT_SIZE],
     waiting: usize,
     settings: &[u64; SETTINGS_WORDS],
@@ -90,11 +108,20 @@ fn add_alarm(
     let counts = counts_in(settings);
     let is_digital = n <= counts.digital;
     let conditions = found.conditions;
-    add_conditions(text, waiting, b"end I A B D E\n", n, is_digital, conditions)
+    add_conditions(
+        rt,
+        text,
+        waiting,
+        b"end I A B D E\n",
+        n,
+        is_digital,
+        conditions,
+    )
 }
 
 // Adds all conditions of a bank, alarm by alarm.
 pub fn add_bank(
+    rt: &(impl Print + Eprint),
     text: &mut [u8; TEXT_SIZE],
     waiting: usize,
     settings: &[u64; SETTINGS_WORDS],
@@ -104,7 +131,7 @@ pub fn add_bank(
     let mut at = waiting;
     let mut n = 1;
     while n <= ALARMS {
-        at = add_alarm(text, at, settings, states, marks, n);
+        at = add_alarm(rt, text, at, settings, states, marks, n);
         n += 1;
     }
     at

@@ -1,4 +1,6 @@
 // The calls that firmware in C or Rust links. A bank lives in words that the caller lends; nothing else is kept between calls.
+#![tactic(auto)]
+
 pub mod answers;
 pub mod load_call;
 pub mod replay_call;

@@ -7,7 +7,7 @@ use settings::refusals::{INCOMPLETE, TOO_MANY};
 use settings::reply::Refusal;
 
 // How many alarms a section has and where its first record begins, or the refusal.
-#[derive(Drop)]
+#[derive(Clone, Copy)]
 pub enum Count {
     Alarms(usize, usize),
     Refused(Refusal),

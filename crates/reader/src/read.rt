@@ -8,7 +8,7 @@ use settings::refusals::LEFT_OVER;
 use settings::reply::{Refusal, Reply};
 use settings::types::{Alarm, Form, Settings, blank_alarms, no_alarms};
 
-#[derive(Drop)]
+#[derive(Clone, Copy)]
 pub struct Loaded {
     pub settings: Settings,
     pub reply: Reply,

@@ -10,14 +10,14 @@ use settings::types::{Alarm, Form};
 use settings_record::record::{Record, record_at};
 
 // How many alarms the section has and the offset past it, or the first refusal in it.
-#[derive(Drop)]
+#[derive(Clone, Copy)]
 pub enum Section {
     Read(usize, usize),
     Refused(Refusal),
 }
 
 // A section's answer, and the alarms with those that were read in their places.
-#[derive(Drop)]
+#[derive(Clone, Copy)]
 pub struct Filled {
     pub alarms: [Alarm; ALARMS],
     pub section: Section,

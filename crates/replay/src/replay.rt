@@ -12,7 +12,7 @@ use scan::scan::scan;
 use scan_record::check::record_length;
 use settings::reply::{Refusal, Reply};
 
-#[derive(Drop)]
+#[derive(Clone, Copy)]
 pub struct Replayed {
     // a refusal of words that are no bank
     pub reply: Reply,
@@ -27,7 +27,7 @@ pub struct Replayed {
 }
 
 // How the records so far were answered: what `Replayed` has beside the reply.
-#[derive(Drop)]
+#[derive(Clone, Copy)]
 pub struct Tally {
     pub events: usize,
     pub refused: usize,

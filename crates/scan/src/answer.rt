@@ -2,7 +2,7 @@
 use settings::reply::Refusal;
 
 // The number of events, or the refusal.
-#[derive(Drop)]
+#[derive(Clone, Copy)]
 pub enum Answer {
     Events(usize),
     Refused(Refusal),

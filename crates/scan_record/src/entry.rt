@@ -14,7 +14,7 @@ use wire::number::get_u32;
 use wire::real::{get_real, is_bounded};
 
 // The decoded reading, the command word and the offset past them, or the refusal.
-#[derive(Drop)]
+#[derive(Clone, Copy)]
 pub enum Entry {
     Read(Reading, u32, usize),
     Refused(Refusal),

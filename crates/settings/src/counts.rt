@@ -10,7 +10,7 @@ pub const MOST: usize = 12;
 // And of both forms together.
 pub const ALARMS: usize = 2 * MOST;
 
-#[derive(Drop)]
+#[derive(Clone, Copy)]
 pub struct Counts {
     pub digital: usize,
     pub analog: usize,

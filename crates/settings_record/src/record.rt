@@ -17,7 +17,7 @@ use wire::number::{get_u32, has};
 use wire::real::get_real;
 
 // An alarm's settings and the offset past its record, or the refusal.
-#[derive(Drop)]
+#[derive(Clone, Copy)]
 pub enum Record {
     Alarm(Alarm, usize),
     Refused(Refusal),

@@ -6,7 +6,7 @@ ghost use Rattle.wire.specs.Internal.Places.{six_bits, six_range};
 use wire::places::{HH, HH_UNACKED, SIX};
 
 // Bits of the six conditions: what each keeps, three a condition, and its events, three a condition.
-#[derive(Drop)]
+#[derive(Clone, Copy)]
 pub struct Cells {
     pub kept: u32,
     pub events: u32,

@@ -1,7 +1,7 @@
 // Text that waits in a buffer for standard output, so that many lines are one write. How many bytes of the buffer wait is handed
 // from call to call.
 use crate::input::part;
-use libc::STDOUT_FILENO;
+use std::io;
 
 // Bytes of the buffer.
 pub const TEXT_SIZE: usize = 65536;
@@ -9,23 +9,38 @@ pub const TEXT_SIZE: usize = 65536;
 // In place of how many bytes wait: a write failed, and nothing is written any more.
 pub const FAILED: usize = usize::MAX;
 
+// Tells standard error what failed, and why. Nothing is left to tell where that fails too.
+pub fn tell(rt: &impl Eprint, what: &[u8], error: io::Error) {
+    for byte in what {
+        let _ = rt.eprint(char::from(*byte));
+    }
+    let _ = eprintln!(rt; ": {error}");
+}
+
 // Writes what waits. Standard error has the reason of a failure.
-pub fn flush(text: &[u8; TEXT_SIZE], waiting: usize) -> usize {
+pub fn flush(rt: &(impl Print + Eprint), text: &[u8; TEXT_SIZE], waiting: usize) -> usize {
     if TEXT_SIZE < waiting {
         return FAILED;
     }
-    if io::write_all(STDOUT_FILENO, part(text, 0, waiting)) {
-        return 0;
+    match rt.write_all(part(text, 0, waiting)) {
+        Ok(()) => 0,
+        Err(error) => {
+            tell(rt, b"standard output", error);
+            FAILED
+        }
     }
-    os::fail(b"standard output");
-    FAILED
 }
 
 // Puts a byte behind what waits, which is written first where the buffer is full.
-pub fn add_byte(text: &mut [u8; TEXT_SIZE], waiting: usize, byte: u8) -> usize {
+pub fn add_byte(
+    rt: &(impl Print + Eprint),
+    text: &mut [u8; TEXT_SIZE],
+    waiting: usize,
+    byte: u8,
+) -> usize {
     let mut at = waiting;
     if at == TEXT_SIZE {
-        at = flush(text, at);
+        at = flush(rt, text, at);
     }
     if at < TEXT_SIZE {
         text[at] = byte;
@@ -35,11 +50,16 @@ pub fn add_byte(text: &mut [u8; TEXT_SIZE], waiting: usize, byte: u8) -> usize {
 }
 
 // Puts bytes behind what waits.
-pub fn add(text: &mut [u8; TEXT_SIZE], waiting: usize, bytes: &[u8]) -> usize {
+pub fn add(
+    rt: &(impl Print + Eprint),
+    text: &mut [u8; TEXT_SIZE],
+    waiting: usize,
+    bytes: &[u8],
+) -> usize {
     let mut at = waiting;
     let mut i = 0;
     while i < bytes.len() {
-        at = add_byte(text, at, bytes[i]);
+        at = add_byte(rt, text, at, bytes[i]);
         i += 1;
     }
     at

@@ -1,16 +1,18 @@
 // Pieces of an input that is read in blocks: lines, or records of one size.
 use crate::input::{BLOCK_SIZE, find, keep_rest};
-use crate::output::{FAILED, TEXT_SIZE, flush};
+use crate::output::{FAILED, TEXT_SIZE, flush, tell};
+use std::io;
+use std::io::Read;
 
 // The longest piece. Of a longer one what was read is dropped: it is cut.
 pub const PIECE_SIZE: usize = 20000;
 
-// The piece at hand of a file in records of `size` bytes, or in lines, where that is 0. It stands in a block from `from` up to `end`, the
+// The piece at hand of an input in records of `size` bytes, or in lines, where that is 0. It stands in a block from `from` up to `end`, the
 // next one begins at `next`, and what was read ends at `filled`. The last read answered `got`: how many bytes, 0 at the input's end, and
-// less where it failed. Text is written before more is read, so how much text waits stands beside it.
-#[derive(Drop)]
+// less where it failed, with the system's number for why in `code`. Text is written before more is read, so how much text waits stands
+// beside it.
+#[derive(Clone, Copy)]
 pub struct Piece {
-    pub file: i32,
     pub size: usize,
     pub from: usize,
     pub end: usize,
@@ -18,13 +20,13 @@ pub struct Piece {
     pub filled: usize,
     pub is_cut: bool,
     pub got: isize,
+    pub code: i32,
     pub waiting: usize,
 }
 
 // Before the first piece.
-pub fn no_piece(file: i32, size: usize) -> Piece {
+pub fn no_piece(size: usize) -> Piece {
     Piece {
-        file,
         size,
         from: 0,
         end: 0,
@@ -32,6 +34,7 @@ pub fn no_piece(file: i32, size: usize) -> Piece {
         filled: 0,
         is_cut: false,
         got: 1,
+        code: 0,
         waiting: 0,
     }
 }
@@ -62,7 +65,6 @@ fn next_of(end: usize, size: usize) -> usize {
 fn piece_at(piece: Piece, from: usize, is_cut: bool, block: &[u8; BLOCK_SIZE]) -> Piece {
     let end = end_of(block, from, piece.size);
     Piece {
-        file: piece.file,
         size: piece.size,
         from,
         end,
@@ -70,6 +72,7 @@ fn piece_at(piece: Piece, from: usize, is_cut: bool, block: &[u8; BLOCK_SIZE]) -
         filled: piece.filled,
         is_cut,
         got: piece.got,
+        code: piece.code,
         waiting: piece.waiting,
     }
 }
@@ -86,24 +89,30 @@ fn kept_from(piece: Piece) -> usize {
 }
 
 // Reads once behind what was kept of a block. A block that is full takes no more, as if the input had ended.
-fn read_more(piece: Piece, block: &mut [u8], kept: usize) -> Piece {
+fn read_more(input: &mut impl Read, piece: Piece, block: &mut [u8], kept: usize) -> Piece {
     let mut more = piece;
     more.filled = kept;
     more.got = 0;
     if kept < block.len() {
-        let room = &mut block[kept..];
-        let got = libc::read(piece.file, room);
-        more.filled = kept + io::count(got, room);
-        more.got = got;
+        match input.read(&mut block[kept..]) {
+            Ok(got) => {
+                more.filled = kept + got;
+                more.got = got as isize;
+            }
+            Err(error) => {
+                more.got = -1;
+                more.code = error.raw_os_error().unwrap_or(0);
+            }
+        }
     }
     more
 }
 
 // The piece at hand after one more read.
-fn read_on(piece: Piece, block: &mut [u8; BLOCK_SIZE]) -> Piece {
+fn read_on(input: &mut impl Read, piece: Piece, block: &mut [u8; BLOCK_SIZE]) -> Piece {
     let from = kept_from(piece);
     let kept = keep_rest(block, from, piece.filled);
-    let more = read_more(piece, block, kept);
+    let more = read_more(input, piece, block, kept);
     piece_at(more, 0, piece.is_cut | (piece.from < from), block)
 }
 
@@ -113,10 +122,10 @@ fn is_short(piece: Piece) -> bool {
 }
 
 // Writes the text so far before a piece whose end was not read yet, since reading may take long.
-fn settled(piece: Piece, text: &[u8; TEXT_SIZE]) -> Piece {
+fn settled(rt: &(impl Print + Eprint), piece: Piece, text: &[u8; TEXT_SIZE]) -> Piece {
     let mut next = piece;
     if is_short(piece) {
-        next.waiting = flush(text, piece.waiting);
+        next.waiting = flush(rt, text, piece.waiting);
     }
     next
 }
@@ -133,11 +142,17 @@ fn rest_of(piece: Piece) -> Piece {
 
 // The next piece, or what is left of the input. Before anything is read the text so far is written. A proved loop has to end, and
 // nothing says that an input does, so it counts its turns down from a number that no input uses up.
-pub fn next_piece(piece: Piece, block: &mut [u8; BLOCK_SIZE], text: &[u8; TEXT_SIZE]) -> Piece {
-    let mut next = settled(piece_at(piece, piece.next, false, block), text);
+pub fn next_piece(
+    rt: &(impl Print + Eprint),
+    input: &mut impl Read,
+    piece: Piece,
+    block: &mut [u8; BLOCK_SIZE],
+    text: &[u8; TEXT_SIZE],
+) -> Piece {
+    let mut next = settled(rt, piece_at(piece, piece.next, false, block), text);
     let mut turns = u64::MAX;
     while 0 < turns && is_short(next) {
-        next = read_on(next, block);
+        next = read_on(input, next, block);
         turns -= 1;
     }
     rest_of(next)
@@ -149,14 +164,14 @@ pub fn goes_on(piece: Piece) -> bool {
 }
 
 // Tells standard error the reason where the last read failed.
-pub fn tell_failure(piece: Piece, name: &[u8]) {
+pub fn tell_failure(rt: &impl Eprint, piece: Piece, name: &[u8]) {
     if piece.got < 0 {
-        os::fail(name);
+        tell(rt, name, io::Error::from_raw_os_error(piece.code));
     }
 }
 
 // Ends a program's input: standard error has the reason where it failed, and what waits is written.
-pub fn finish(piece: Piece, text: &[u8; TEXT_SIZE]) {
-    tell_failure(piece, b"standard input");
-    flush(text, piece.waiting);
+pub fn finish(rt: &(impl Print + Eprint), piece: Piece, text: &[u8; TEXT_SIZE]) {
+    tell_failure(rt, piece, b"standard input");
+    flush(rt, text, piece.waiting);
 }

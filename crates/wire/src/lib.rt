@@ -1,4 +1,6 @@
 // Little-endian numbers, REALs and bits: what every layer above reads from a record and writes to a buffer.
+#![tactic(auto)]
+
 pub mod bits;
 pub mod number;
 pub mod places;

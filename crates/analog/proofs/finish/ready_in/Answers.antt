@@ -1,0 +1,10 @@
+-- `analog::finish::ready_in` meets its contract. Assumes nothing.
+use borrow.Author.Rules.{rules}
+use mathlib.Core.Path.{◌∙◌}
+use Rattle.analog.specs.Internal.Packed.{ready_bits}
+use Rattle.analog.proofs.finish.ready_in.Goals as goal
+
+pub returns : goal.returns
+unfolding ready_bits
+returns c =
+    rw (← c.choose-above.ensures, ← c.choose-below.ensures, ← c.lasted.ensures, ← c.lasted-2.ensures) c.spread6.ensures

@@ -1,0 +1,41 @@
+-- `bank::fit::fit` meets its contract: each return takes the case that its tests led to. Assumes nothing.
+use borrow.Author.Rules.{rules}
+use borrow.Author.Tests.{not-true, not-false, eq-eqb, ne_eqb}
+use mathlib.Core.Path.{◌∙◌}
+use Rattle.bank.specs.Internal.Words.{fit_of}
+use Rattle.bank.proofs.fit.fit.Goals as goal
+
+pub returns-then-not-is_block : goal.returns-then-not-is_block
+unfolding fit_of
+returns-then-not-is_block c = c.no_bank.ensures ∙ rw (← c.is_block.ensures, c.if-not-is_block.true)
+
+pub returns-then-states-ne-STATES_WORDS : goal.returns-then-states-ne-STATES_WORDS
+unfolding fit_of
+returns-then-states-ne-STATES_WORDS c =
+    c.no_bank-then-states-ne-STATES_WORDS.ensures
+    ∙ rw (
+      ← c.is_block.ensures,
+      c.if-not-is_block.false,
+      ne_eqb _ _ c.if-states-ne-STATES_WORDS.true,
+    )
+
+pub returns-then-marks-ne-MARKS_WORDS : goal.returns-then-marks-ne-MARKS_WORDS
+unfolding fit_of
+returns-then-marks-ne-MARKS_WORDS c =
+    c.no_bank-then-marks-ne-MARKS_WORDS.ensures
+    ∙ rw (
+      ← c.is_block.ensures,
+      c.if-not-is_block.false,
+      eq-eqb _ _ c.if-states-ne-STATES_WORDS.false,
+      ne_eqb _ _ c.if-marks-ne-MARKS_WORDS.true,
+    )
+
+pub returns : goal.returns
+unfolding fit_of
+returns c =
+    rw (
+      ← c.is_block.ensures,
+      c.if-not-is_block.false,
+      eq-eqb _ _ c.if-states-ne-STATES_WORDS.false,
+      eq-eqb _ _ c.if-marks-ne-MARKS_WORDS.false,
+    )

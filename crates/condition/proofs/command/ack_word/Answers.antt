@@ -1,0 +1,23 @@
+-- `condition::command::ack_word` meets its contract: a bit for each condition, and none of a word that has none. Assumes nothing.
+use borrow.Author.Rules.{rules}
+use Rattle.condition.specs.Command.{acks}
+use Rattle.condition.specs.Internal.Outcome.{ack_bits}
+use Rattle.wire.specs.Internal.Words.{word_of, spread}
+use native.Mathlib.Omega.{arith}
+use mathlib.Core.Path.{sym, ap, ◌∙◌}
+use Prim.Native.Nat.{ℕ}
+use mathlib.Core.Bool.{Bool}
+use mathlib.Core.List.{List}
+use Rattle.condition.proofs.command.Own.{acks-are}
+use Rattle.condition.proofs.command.ack_word.Goals as goal
+
+pub returns-then-word-eq0 : goal.returns-then-word-eq0
+unfolding word_of spread ack_bits acks
+returns-then-word-eq0 c = (sym (ap (λ (w : ℕ). word_of (spread (ack_bits w c.args.previous))) c.if-word-eq0.true), omega arith)
+
+pub returns : goal.returns
+returns c =
+    let a = c.args in (
+      c.spread6.ensures.0 ∙ ap (λ (l : List Bool). word_of (spread l)) (acks-are a.word a.previous c.acks_all-all.ensures),
+      c.spread6.ensures.1,
+    )

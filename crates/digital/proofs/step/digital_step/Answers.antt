@@ -1,0 +1,91 @@
+-- `digital::step::digital_step` meets its contract. Assumes nothing.
+use borrow.Author.Rules.{rules}
+use borrow.Author.Tests.{eqb-true}
+use mathlib.Core.Path.{◌≡◌, refl, sym, ap, ◌∙◌}
+use mathlib.Core.Bool.{Bool, not, ◌&&◌, ◌||◌, cond}
+use mathlib.Core.List.{List}
+use Prim.Native.Nat.{ℕ, ◌-◌, ◌%◌, ◌/◌}
+use lib.Dec.{eqb, leb}
+use lib.ListN.{set}
+use Rattle.wire.specs.Bits.{bit}
+use Rattle.wire.specs.Internal.Words.{word_of}
+use Rattle.wire.proofs.Laws.{and-true}
+use Rattle.wire.proofs.WordLaws.{bit-zero, bit-shift, word_low}
+use Rattle.wire.specs.Internal.Places.{first_condition, condition_bit, from_condition}
+use Rattle.settings.specs.declared.types.Alarm.{Alarm}
+use Rattle.settings.specs.declared.types.Form.TheVariants.{Digital as DigitalForm}
+use Rattle.settings.specs.declared.types.Reading.{Reading}
+use Rattle.layout.specs.Internal.Words.{pair_of, alarm_in}
+use Rattle.condition.specs.Command.{resets, acks_all}
+use Rattle.condition.specs.Internal.Mode.{mode_bits}
+use Rattle.condition.specs.Internal.Outcome.{outcome_bits}
+use Rattle.level.specs.Level.{is_bit}
+use Rattle.state.specs.Internal.State.{State, state_in}
+use Rattle.state.specs.Internal.Held.{look_digital}
+use Rattle.digital.specs.Internal.Digital.{digital_told, digital_after, digital_step}
+use Rattle.digital.proofs.Steps.{digital-flags, digital-events}
+use Rattle.digital.proofs.Steps.{digital-done, digital-rest-done}
+use Rattle.digital.proofs.step.digital_step.Goals as goal
+
+pub returns-then-word-rests : goal.returns-then-word-rests
+unfolding alarm_in
+returns-then-word-rests c =
+    let g = c.args in
+    let a : Alarm = alarm_in DigitalForm g.settings.now g.from in
+    let watched = ap (λ (v : ℕ). eqb (v % 2) 1) c.flags_in-set.ensures ∙ sym (bit-zero a.flags) in
+    let met' = c.is_bit-met.ensures ∙ ap (λ (b : Bool). is_bit b g.reading) watched in
+    let rests = and-true _ _ c.if-word-rests.true in
+    let both = digital-rest-done a g.states.now g.at g.reading g.word g.time met' (eqb-true _ _ rests.0)
+    (eqb-true _ _ (sym c.rests.ensures ∙ rests.1)) in
+    record { value = both.0; states_after = both.1 }
+
+pub returns : goal.returns
+unfolding mode_bits digital_step alarm_in state_in
+returns c =
+    let g = c.args in
+    let ws : List ℕ = g.states.now in
+    let a : Alarm = alarm_in DigitalForm g.settings.now g.from in
+    let s : State = state_in ws g.at in
+    let x : Reading = g.reading in
+    let low = c.lower-flags.ensures in
+    let up = c.upper-previous.ensures in
+    let set = c.flags_in-set.ensures in
+    let m : c.modes-m.result
+    ≡ word_of (mode_bits (bit s.flags 0) (bit s.flags 1) g.word s.previous) =
+    c.modes-m.ensures.0
+    ∙ (λ i. word_of (mode_bits (bit (low i) 0) (bit (low i) 1) g.word (up i)))
+    in
+    let disabled = word_low _ _ m in
+    let watched = ap (λ (v : ℕ). eqb (v % 2) 1) set ∙ sym (bit-zero a.flags) in
+    let met' = c.is_bit-met.ensures ∙ ap (λ (b : Bool). is_bit b x) watched in
+    let reset = c.resets_one.ensures ∙ ap (resets g.word) up in
+    let start =
+    c.choose.ensures
+    ∙ ap (λ (f : ℕ). cond (bit f (condition_bit 0 2)) s.hh g.time) low in
+    let ready =
+    c.lasted-ready.ensures
+    ∙ (λ i. leb (c.duration_in.ensures i) (g.time - start i)) in
+    let ack = c.acks_all-ack.ensures ∙ ap (acks_all g.word) up in
+    let alarm = ap (λ (f : ℕ). bit (from_condition 0 f) 0) low ∙ bit-shift s.flags first_condition 0 in
+    let unacked = ap (λ (f : ℕ). bit (from_condition 0 f) 1) low ∙ bit-shift s.flags first_condition 1 in
+    let outcome : c.condition-c.result
+    ≡ word_of (outcome_bits (digital_told a x g.word g.time (look_digital s)) (bit s.flags (condition_bit 0 0)) (bit s.flags (condition_bit 0 1))) =
+    c.condition-c.ensures.0
+    ∙ (λ i.
+    word_of (outcome_bits (record {
+      enabled = not (disabled i);
+      met = met' i;
+      frees = not (bit (set i) 2) || reset i;
+      ready = ready i;
+      ack = ack i;
+      required =
+          bit (set i) 1;
+    }) (alarm i) (unacked i)))
+    in
+    let flags = digital-flags a s x g.word g.time m outcome in
+    let events = digital-events a s x g.word g.time m outcome in
+    let first = c.pair-kept.ensures.0 ∙ ap (λ (f : ℕ). pair_of f g.word) flags in record {
+      value = events;
+      states_after = c.keep.ensures ∙ digital-done ws g.at (digital_after a x g.word g.time (look_digital s)) refl
+          (λ i. cond ((not (disabled i) && met' i) && not (bit (low i) (condition_bit 0 2))) g.time s.hh) first;
+    }

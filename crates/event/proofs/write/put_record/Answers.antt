@@ -1,0 +1,10 @@
+-- `event::write::put_record` meets its contract: the head, then the time. Assumes nothing.
+use borrow.Author.Rules.{rules}
+use Rattle.event.proofs.Stores.{record-stores}
+use Rattle.event.proofs.write.put_record.Goals as goal
+
+pub returns : goal.returns
+returns c =
+    let a = c.args in
+    record-stores a.time a.out.now a.at a.head c.put_u64.ensures
+    c.put_u64-2.ensures

@@ -1,0 +1,7 @@
+-- `host_bytes::answer::put_four` meets its contract. Assumes nothing.
+use borrow.Author.Rules.{rules}
+use mathlib.Core.Path.{◌∙◌}
+use Rattle.host_bytes.proofs.answer.put_four.Goals as goal
+
+pub returns : goal.returns
+returns c = c.put_word.ensures ∙ rw c.put_three.ensures

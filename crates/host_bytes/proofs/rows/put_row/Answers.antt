@@ -1,0 +1,17 @@
+-- `host_bytes::rows::put_row` meets its contract: five stores, one after the other. Assumes nothing.
+use borrow.Author.Rules.{rules}
+use mathlib.Core.Path.{◌∙◌}
+use Rattle.host_bytes.proofs.Stores.{row-stores}
+use Rattle.host_bytes.proofs.rows.put_row.Goals as goal
+
+pub returns : goal.returns
+returns c =
+    let a = c.args in
+    c.put_u64-3.ensures
+    ∙ rw (
+      c.put_u64-2.ensures,
+      c.put_u64.ensures,
+      c.put_u32.ensures,
+      c.put_flags.ensures,
+    )
+    (row-stores a.row a.out.now a.at)

@@ -1,0 +1,6 @@
+-- `host_bytes::rows::whole_row` meets its contract. Assumes nothing.
+use borrow.Author.Rules.{rules}
+use Rattle.host_bytes.proofs.rows.whole_row.Goals as goal
+
+pub returns : goal.returns
+returns c = rw c.to_pattern.ensures

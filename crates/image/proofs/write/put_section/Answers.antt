@@ -1,0 +1,30 @@
+-- `image::write::put_section` meets its contract: the count, then the records. Assumes nothing.
+use borrow.Author.Rules.{rules}
+use Rattle.image.proofs.Images.{section-length}
+use Rattle.image.specs.Internal.Write.{section_bytes, read_as}
+use native.Mathlib.Numerals.{add-one}
+use native.Mathlib.Omega.{arith}
+use mathlib.Core.Path.{◌∙◌}
+use Rattle.image.proofs.write.put_section.Goals as goal
+
+pub put_u8-requires : goal.put_u8-requires
+unfolding section_bytes
+put_u8-requires c =
+    let a = c.args in
+    omega (arith, section-length a.form a.first a.count (read_as a.form a.words.now))
+
+pub put_records-requires : goal.put_records-requires
+unfolding section_bytes
+put_records-requires c =
+    let a = c.args in record { end_le_all_most = omega (arith, section-length a.form a.first a.count (read_as a.form a.words.now)); words_in_bounds = omega (arith, section-length a.form a.first a.count (read_as a.form a.words.now)) }
+
+pub returns : goal.returns
+unfolding section_bytes
+returns c =
+    let a = c.args in
+    let p = c.put_records in
+    let e = c.put_u8.ensures in
+    record {
+      value = omega (arith, section-length a.form a.first a.count (read_as a.form a.words.now));
+      out_after = p.ensures.out_after ∙ rw (e, add-one);
+    }

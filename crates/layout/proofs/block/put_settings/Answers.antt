@@ -1,0 +1,19 @@
+-- `layout::block::put_settings` meets its contract: zeros, the head, the alarms. Assumes nothing.
+use borrow.Author.Rules.{rules}
+use mathlib.Core.Path.{ap, ◌∙◌}
+use Prim.Native.Nat.{ℕ}
+use lib.ListN.{replicate}
+use Rattle.layout.proofs.Blocks.{block-whole, block-head}
+use Rattle.layout.proofs.block.put_settings.Goals as goal
+
+pub returns : goal.returns
+returns c =
+    let s = c.args.settings in
+    let p = c.put_alarms.ensures in
+    let z = c.clear.ensures ∙ ap (λ (k : ℕ). replicate k 0) c.requires in
+    let e = block-whole s p.alarms_len z c.put_head.ensures p.words_after in
+    record {
+      words_after = e;
+      says = p.says;
+      words_after_2 = block-head s e;
+    }

@@ -1,0 +1,15 @@
+-- `level::level::met_word` meets its contract: the comparisons, packed. Assumes nothing.
+use borrow.Author.Rules.{rules}
+use native.Mathlib.Nat.{div-one}
+use mathlib.Core.Bool.{and-false}
+use Rattle.level.specs.Level.{met}
+use Rattle.level.specs.Internal.Bits.{met_bits}
+use Rattle.level.proofs.level.met_word.Goals as goal
+
+pub returns-in-Digital : goal.returns-in-Digital
+unfolding met_bits met
+returns-in-Digital c = rw c.in-Digital.is (simp and-false c.spread6.ensures)
+
+pub returns-in-Level : goal.returns-in-Level
+unfolding met_bits met
+returns-in-Level c = rw (c.in-Level.is, div-one) c.spread6-in-Level.ensures

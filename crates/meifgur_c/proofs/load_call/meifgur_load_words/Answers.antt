@@ -1,0 +1,29 @@
+-- `meifgur_c::load_call::meifgur_load_words` meets its contract. Assumes nothing.
+use borrow.Author.Rules.{rules}
+use borrow.Author.Tests.{lt-ltb, le-ltb}
+use mathlib.Core.Path.{refl, ap, ◌∙◌}
+use lib.ListN.{length}
+use lib.Seq.{sets}
+use Rattle.layout.specs.Internal.Block.{counts_in}
+use Rattle.meifgur_c.specs.Calls.{reply_number, load_fields}
+use Rattle.meifgur_c.proofs.load_call.meifgur_load_words.Goals as goal
+
+pub returns-then-answer-lt-LOAD_ANSWER : goal.returns-then-answer-lt-LOAD_ANSWER
+returns-then-answer-lt-LOAD_ANSWER c =
+    let short = lt-ltb (length c.args.answer.now) 4 c.if-answer-lt-LOAD_ANSWER.true in
+    record { value = rw short refl; settings_after = rw short refl; states_after = rw short refl; marks_after = rw short refl; answer_after = rw short refl }
+
+pub returns : goal.returns
+returns c =
+    let a = c.args in
+    let e = c.load-reply.ensures in
+    let f = c.put_loaded.ensures in
+    let n = c.counts_of-counts.ensures ∙ ap counts_in e.settings_after in
+    let long = le-ltb (length a.answer.now) 4 c.if-answer-lt-LOAD_ANSWER.false in
+    record {
+      value = rw long (f.value ∙ ap reply_number e.value);
+      settings_after = rw long (e.settings_after);
+      states_after = rw long (e.states_after);
+      marks_after = rw long (e.marks_after);
+      answer_after = rw long (f.words_after ∙ (λ i. sets a.answer.now 0 (load_fields (e.value i) (n i))));
+    }

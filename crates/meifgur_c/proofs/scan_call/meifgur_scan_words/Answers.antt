@@ -1,0 +1,30 @@
+-- `meifgur_c::scan_call::meifgur_scan_words` meets its contract. Assumes nothing.
+use borrow.Author.Rules.{rules}
+use borrow.Author.Tests.{lt-ltb, le-ltb}
+use mathlib.Core.Path.{◌≡◌, refl, ap, ◌∙◌}
+use mathlib.Core.List.{List, [], ◌∷◌}
+use Prim.Native.Nat.{ℕ}
+use lib.ListN.{length, get_or}
+use lib.Seq.{sets}
+use Rattle.scan.specs.declared.answer.Answer.{Answer}
+use Rattle.meifgur_c.specs.Calls.{scan_number, scan_answer}
+use Rattle.meifgur_c.proofs.scan_call.meifgur_scan_words.Goals as goal
+
+pub returns-then-answer-lt-SCAN_ANSWER : goal.returns-then-answer-lt-SCAN_ANSWER
+returns-then-answer-lt-SCAN_ANSWER c =
+    let short = lt-ltb (length c.args.answer.now) 3 c.if-answer-lt-SCAN_ANSWER.true in
+    record { value = rw short refl; states_after = rw short refl; marks_after = rw short refl; events_after = rw short refl; answer_after = rw short refl }
+
+pub returns : goal.returns
+returns c =
+    let a = c.args in
+    let e = c.scan-scanned.ensures in
+    let f = c.put_scanned.ensures in
+    let long = le-ltb (length a.answer.now) 3 c.if-answer-lt-SCAN_ANSWER.false in
+    record {
+      value = rw long (f.value ∙ ap scan_number e.value);
+      states_after = rw long (e.states_after);
+      marks_after = rw long (e.marks_after);
+      events_after = rw long (e.out_after);
+      answer_after = rw long (f.words_after ∙ ap (λ (r : Answer). sets a.answer.now 0 (scan_answer r)) e.value);
+    }

@@ -1,0 +1,19 @@
+-- `replay::replay::run` meets its contract: the invariant: words, tally and buffer are those after the records so far, and the next one
+-- begins here. The measure is the bytes left. Assumes nothing.
+use borrow.Author.Rules.{rules}
+use mathlib.Core.Path.{ap}
+use Prim.Native.Nat.{◌-◌}
+use native.Mathlib.Omega.{arith}
+use lib.ListN.{length}
+use Rattle.bank.specs.Internal.Words.{words_in}
+use Rattle.replay.proofs.Runs.{Going, going-first, least, has_room, same_length as buffer-kept, still_alike, few-refused, few-records, answer-fits}
+use Rattle.replay.proofs.Runs.{onward-is, going_next, going_end}
+use Rattle.replay.specs.Replay.{Progress}
+use Rattle.replay.proofs.replay.run.Given as goal
+
+abbrev pub invariant-loop-at : goal.invariant-loop-at
+invariant-loop-at l =
+    Going (words_in l.settings l.initial.states l.initial.marks) l.bytes l.initial.out l.size (record { words = words_in l.settings l.states l.marks; tally = l.done; buffer = l.out }) l.index l.at
+
+abbrev pub decreases-loop-at : goal.decreases-loop-at
+decreases-loop-at l = length l.bytes - l.at

@@ -1,0 +1,9 @@
+-- `report::whole::digital_whole` meets its contract. Assumes nothing.
+use borrow.Author.Rules.{rules}
+use native.Mathlib.Nat.{div-one, add-zero}
+use Rattle.state.specs.Internal.State.{state_in}
+use Rattle.report.proofs.whole.digital_whole.Goals as goal
+
+pub returns : goal.returns
+unfolding state_in
+returns c = simp (c.elapsed_run.ensures, c.is_invalid.ensures, c.lower-flags.ensures, div-one, add-zero)

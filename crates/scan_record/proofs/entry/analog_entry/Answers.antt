@@ -1,0 +1,38 @@
+-- `scan_record::entry::analog_entry` meets its contract: each return takes the case that its tests led to. Assumes nothing.
+use borrow.Author.Rules.{rules}
+use Rattle.settings.specs.Refusals.{checked}
+use Rattle.scan_record.specs.Entry.{entry_at}
+use mathlib.Core.Path.{◌∙◌}
+use borrow.Author.Tests.{not-true, not-false}
+use Rattle.scan_record.proofs.entry.analog_entry.Goals as goal
+
+pub returns-then-not-is_bounded : goal.returns-then-not-is_bounded
+unfolding entry_at checked
+returns-then-not-is_bounded c =
+    c.refuse.ensures
+    ∙ simp (← c.get_real-x.ensures, ← c.is_bounded.ensures, c.if-not-is_bounded.true)
+
+pub returns-then-not-is_command : goal.returns-then-not-is_command
+unfolding entry_at checked
+returns-then-not-is_command c =
+    c.refuse-then-not-is_command.ensures
+    ∙ simp (
+      ← c.get_real-x.ensures,
+      ← c.is_bounded.ensures,
+      c.if-not-is_bounded.false,
+      ← c.get_u32-word.ensures,
+      ← c.is_command.ensures,
+      c.if-not-is_command.true,
+    )
+
+pub returns : goal.returns
+unfolding entry_at checked
+returns c =
+    simp (
+      ← c.get_real-x.ensures,
+      ← c.is_bounded.ensures,
+      c.if-not-is_bounded.false,
+      ← c.get_u32-word.ensures,
+      ← c.is_command.ensures,
+      c.if-not-is_command.false,
+    )

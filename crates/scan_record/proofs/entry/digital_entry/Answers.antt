@@ -1,0 +1,32 @@
+-- `scan_record::entry::digital_entry` meets its contract: each return takes the case that its tests led to. Assumes nothing.
+use borrow.Author.Rules.{rules}
+use Rattle.settings.specs.Refusals.{checked}
+use Rattle.scan_record.specs.Entry.{entry_at}
+use mathlib.Core.Path.{◌∙◌}
+use borrow.Author.Tests.{le-leb, lt-leb, not-true, not-false}
+use Rattle.scan_record.proofs.entry.digital_entry.Goals as goal
+
+pub returns-then-input-gt1 : goal.returns-then-input-gt1
+unfolding entry_at checked
+returns-then-input-gt1 c = c.refuse.ensures ∙ simp (lt-leb _ _ c.if-input-gt1.true)
+
+pub returns-then-not-is_command : goal.returns-then-not-is_command
+unfolding entry_at checked
+returns-then-not-is_command c =
+    c.refuse-then-not-is_command.ensures
+    ∙ simp (
+      le-leb _ _ c.if-input-gt1.false,
+      ← c.get_u32-word.ensures,
+      ← c.is_command.ensures,
+      c.if-not-is_command.true,
+    )
+
+pub returns : goal.returns
+unfolding entry_at checked
+returns c =
+    simp (
+      le-leb _ _ c.if-input-gt1.false,
+      ← c.get_u32-word.ensures,
+      ← c.is_command.ensures,
+      c.if-not-is_command.false,
+    )
