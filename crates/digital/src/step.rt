@@ -16,7 +16,6 @@ use layout::half::{lower, pair, upper};
 use layout::read::{duration_in, flags_in};
 use level::level::is_bit;
 use settings::types::Reading;
-use state::begin::begin;
 use state::offsets::STARTS;
 use wire::places::{CONDITIONS, HH, HH_ROW, HH_UNACKED};
 
@@ -25,7 +24,8 @@ fn keep(states: &mut [u64], at: usize, first: u64, begins: bool, time: u64)
     requires { at + 11 ≤ length states.old }
     ensures { states.new ≡ set (keep_start begins time (at + 5) states.old) at first }
 {
-    begin(states, at + STARTS, begins, time);
+    let begun = states[at + STARTS];
+    states[at + STARTS] = choose(begins, time, begun);
     states[at] = first;
 }
 

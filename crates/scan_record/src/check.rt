@@ -1,16 +1,18 @@
 // The check of a whole scan record.
-ghost use Rattle.std.specs.Prelude.{◌≡◌, ◌&&◌, eqb, ◌≤◌, length};
-ghost use Rattle.scan_record.specs.Part.{record_size};
+ghost use Rattle.std.specs.Prelude.{◌≡◌, ◌&&◌, eqb, ◌+◌, ◌*◌, ◌-◌, ◌≤◌, length};
+ghost use Rattle.scan_record.specs.Part.{entry_size, record_size};
 ghost use Rattle.settings.specs.Counts.{are_good, in_all};
 ghost use Rattle.settings.specs.Internal.Few.{Few};
 ghost use Rattle.scan_record.specs.Internal.Size.{length_of};
+ghost use Rattle.scan_record.specs.Internal.Forms.{check_form};
 ghost use Rattle.scan_record.specs.Check.{check_from, check_record};
 
 use crate::entry::{Entry, entry_at};
 use crate::part::{ANALOG_PART, DIGITAL_PART, TIME_SIZE};
-use settings::counts::{Counts, are_good, form_at, in_all};
+use settings::counts::{Counts, are_good, in_all};
 use settings::refusals::{EARLIER_TIME, WRONG_LENGTH};
 use settings::reply::{Refusal, Reply};
+use settings::types::Form;
 use wire::number::get_u64;
 
 fn length_of(counts: Counts) -> usize
@@ -30,24 +32,41 @@ pub fn record_length(counts: Counts) -> usize
     length_of(counts)
 }
 
-// Checks each alarm in number order and answers the first refusal, of a record that has the right length.
-fn check_alarms(bytes: &[u8], counts: Counts) -> Reply
-    requires few { Few counts }
-    requires bytes_len { length bytes.now ≡ record_size counts }
-    ensures { result ≡ check_from bytes.now counts (in_all counts) 0 8 }
+// Checks the alarms of one form, at the places from `first` to `end`, whose parts begin at `begin`, in number order, and answers
+// the first refusal. Each call names its form, so that no turn of the loop has to ask for it.
+fn check_form(bytes: &[u8], form: Form, begin: usize, first: usize, end: usize) -> Reply
+    requires { (first ≤ end) × (begin + entry_size form * (end - first) ≤ length bytes.now) }
+    ensures { result ≡ check_form form bytes.now (end - first) first begin }
 {
-    let mut place = 0;
-    let mut at = TIME_SIZE;
+    let mut place = first;
+    let mut at = begin;
     loop {
-        if place == in_all(counts) {
+        if place == end {
             break Reply::Accepted;
         }
-        match entry_at(bytes, at, form_at(counts, place), place + 1) {
+        match entry_at(bytes, at, form, place + 1) {
             Entry::Refused(refusal) => break Reply::Refused(refusal),
             Entry::Read(_, _, next) => {
                 place += 1;
                 at = next;
             }
+        }
+    }
+}
+
+// Checks each alarm in number order, the digital ones first, and answers the first refusal, of a record that has the
+// right length.
+fn check_alarms(bytes: &[u8], counts: Counts) -> Reply
+    requires few { Few counts }
+    requires bytes_len { length bytes.now ≡ record_size counts }
+    ensures { result ≡ check_from bytes.now counts (in_all counts) 0 8 }
+{
+    let digital = check_form(bytes, Form::Digital, TIME_SIZE, 0, counts.digital);
+    match digital {
+        Reply::Refused(refusal) => Reply::Refused(refusal),
+        Reply::Accepted => {
+            let begin = TIME_SIZE + DIGITAL_PART * counts.digital;
+            check_form(bytes, Form::Analog, begin, counts.digital, in_all(counts))
         }
     }
 }

@@ -1,5 +1,8 @@
 // One alarm's part of a scan record.
 ghost use Rattle.std.specs.Prelude.{◌≡◌, ◌+◌, ◌≤◌, length};
+ghost use Rattle.std.specs.Float.{binary32};
+ghost use Rattle.std.specs.Float.Ieee.{of_bits};
+ghost use Rattle.wire.specs.Real.{bounded};
 ghost use Rattle.settings.specs.Refusals.{refusal};
 ghost use Rattle.wire.specs.Bits.{is_one_of, sets_only};
 ghost use Rattle.wire.specs.Internal.Words.{mask_of};
@@ -11,7 +14,7 @@ use settings::refusals::{BAD_REAL, NOT_A_BIT, UNKNOWN_COMMAND};
 use settings::reply::Refusal;
 use settings::types::{Form, Reading};
 use wire::number::get_u32;
-use wire::real::{get_real, is_bounded};
+use wire::real::from_pattern;
 
 // The decoded reading, the command word and the offset past them, or the refusal.
 #[derive(Clone, Copy)]
@@ -47,6 +50,18 @@ fn is_command(word: u32, form: Form) -> bool
     (word & command_bits(form)) == word
 }
 
+// A REAL's sign bit, and below it the bit pattern of the largest REAL within the bound.
+const SIGN: u32 = 0x8000_0000;
+
+const LARGEST: u32 = 0x5863_5FA9;
+
+// Whether the REAL of a bit pattern is within the bound: without their signs patterns stand in the order of magnitudes.
+fn is_bounded_pattern(pattern: u32) -> bool
+    ensures { result ≡ bounded (of_bits binary32 pattern) }
+{
+    pattern % SIGN <= LARGEST
+}
+
 fn digital_entry(bytes: &[u8], at: usize, alarm: usize) -> Entry
     requires { at + 5 ≤ length bytes.now }
     ensures { result ≡ entry_at Form.Digital bytes.now at alarm }
@@ -66,15 +81,19 @@ fn analog_entry(bytes: &[u8], at: usize, alarm: usize) -> Entry
     requires { at + 8 ≤ length bytes.now }
     ensures { result ≡ entry_at Form.Analog bytes.now at alarm }
 {
-    let x = get_real(bytes, at);
+    let pattern = get_u32(bytes, at);
     let word = get_u32(bytes, at + ANALOG_WORD);
-    if !is_bounded(x) {
+    if !is_bounded_pattern(pattern) {
         return refuse(BAD_REAL, alarm);
     }
     if !is_command(word, Form::Analog) {
         return refuse(UNKNOWN_COMMAND, alarm);
     }
-    Entry::Read(Reading::Level(x), word, at + ANALOG_PART)
+    Entry::Read(
+        Reading::Level(from_pattern(pattern)),
+        word,
+        at + ANALOG_PART,
+    )
 }
 
 // The part of alarm number `alarm`, at an offset.

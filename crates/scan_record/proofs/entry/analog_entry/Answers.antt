@@ -6,20 +6,20 @@ use mathlib.Core.Path.{◌∙◌}
 use borrow.Author.Tests.{not-true, not-false}
 use Rattle.scan_record.proofs.entry.analog_entry.Goals as goal
 
-pub returns-then-not-is_bounded : goal.returns-then-not-is_bounded
+pub returns-then-not-is_bounded_pattern : goal.returns-then-not-is_bounded_pattern
 unfolding entry_at checked
-returns-then-not-is_bounded c =
+returns-then-not-is_bounded_pattern c =
     c.refuse.ensures
-    ∙ simp (← c.get_real-x.ensures, ← c.is_bounded.ensures, c.if-not-is_bounded.true)
+    ∙ simp (← c.get_u32-pattern.ensures, ← c.is_bounded_pattern.ensures, c.if-not-is_bounded_pattern.true)
 
 pub returns-then-not-is_command : goal.returns-then-not-is_command
 unfolding entry_at checked
 returns-then-not-is_command c =
     c.refuse-then-not-is_command.ensures
     ∙ simp (
-      ← c.get_real-x.ensures,
-      ← c.is_bounded.ensures,
-      c.if-not-is_bounded.false,
+      ← c.get_u32-pattern.ensures,
+      ← c.is_bounded_pattern.ensures,
+      c.if-not-is_bounded_pattern.false,
       ← c.get_u32-word.ensures,
       ← c.is_command.ensures,
       c.if-not-is_command.true,
@@ -29,9 +29,10 @@ pub returns : goal.returns
 unfolding entry_at checked
 returns c =
     simp (
-      ← c.get_real-x.ensures,
-      ← c.is_bounded.ensures,
-      c.if-not-is_bounded.false,
+      c.from_pattern.ensures,
+      ← c.get_u32-pattern.ensures,
+      ← c.is_bounded_pattern.ensures,
+      c.if-not-is_bounded_pattern.false,
       ← c.get_u32-word.ensures,
       ← c.is_command.ensures,
       c.if-not-is_command.false,
