@@ -9,7 +9,7 @@ fn main() {
     let archive = folder.join("libmeifgur_c.a");
     assert!(
         archive.exists(),
-        "no archive: `rt staticlib meifgur_c` writes it"
+        "no archive: `host/archive.sh meifgur_c` writes it"
     );
     println!("cargo:rustc-link-search=native={}", folder.display());
     println!("cargo:rerun-if-changed={}", archive.display());
