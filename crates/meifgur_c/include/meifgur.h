@@ -1,8 +1,8 @@
 /*
  * Meifgur: the alarm part of a tyre receiver, as proved calls.
  *
- * Link target/staticlib/libmeifgur_c.a (`rt staticlib meifgur_c` writes it; x86-64). It needs memcpy and memset and
- * nothing else. The contracts behind these calls stand in crates/meifgur_c/src, the definitions that they cite in
+ * Link target/staticlib/libmeifgur_c.a (`host/archive.sh meifgur_c` writes it; x86-64-v2). It needs memcpy and memset
+ * and nothing else. The contracts behind these calls stand in crates/meifgur_c/src, the definitions that they cite in
  * crates/meifgur_c/specs: every result, and every byte and word of each lent buffer, for input of any length and content.
  *
  *   static struct meifgur_bank bank;
@@ -78,7 +78,7 @@ extern "C" {
  * Bytes of stack, measured on a full bank and rounded up (host/c/stack.c measures them). A scan may use more where its
  * event buffer is shorter than 3840 bytes.
  */
-#define MEIFGUR_LOAD_STACK 10240u
+#define MEIFGUR_LOAD_STACK 6144u
 #define MEIFGUR_SCAN_STACK 17408u
 #define MEIFGUR_SCAN_SHORT_STACK 17408u
 #define MEIFGUR_REPORT_STACK 1024u
