@@ -1,20 +1,18 @@
 -- What the words of a bank say place by place. Assumes nothing.
-use mathlib.Core.Path.{◌≡◌, refl, ◌∙◌}
-use mathlib.Core.Bool.{Bool, true, false, ◌&&◌, cond}
-use mathlib.Core.List.{List}
-use Prim.Native.Nat.{ℕ, zero, suc, ◌≤◌, ◌<◌}
+use mathlib.Core.Path.{◌≡◌, refl}
+use mathlib.Core.Bool.{Bool, true, false, cond}
+use Prim.Native.Nat.{ℕ, ◌≤◌, ◌<◌}
 use native.Mathlib.Omega.{arith}
 use borrow.Author.Tests.{eqb-true}
 use lib.Dec.{eqb}
-use lib.ListN.{length, get_or, set, replicate, length-set, length-replicate}
-use lib.Seq.{get_or-set_same, get_or-set_other}
+use lib.ListN.{length, get_or, replicate, length-replicate}
 use Rattle.layout.proofs.Laws.{placed_below}
-use Rattle.wire.proofs.Laws.{below, and-true}
+use Rattle.wire.proofs.Laws.{and-true}
 use Rattle.settings.specs.Alarm.{blank, blanks}
 use Rattle.layout.specs.Internal.Block.{no_bank}
 use Rattle.settings.specs.declared.reply.Refusal.{Refusal}
 use Rattle.settings.specs.declared.reply.Reply.TheVariants.{Accepted, Refused as RefusedBy}
-use Rattle.layout.specs.Internal.Block.{layout_word, placed, count_in, alarm_on, settings_in, is_block}
+use Rattle.layout.specs.Internal.Block.{layout_word, count_in, alarm_on, settings_in, is_block}
 use Rattle.state.specs.Internal.Held.{fresh_state}
 use Rattle.state.specs.Internal.State.{state_in, state_at}
 use Rattle.bank.specs.Lent.{Words}

@@ -21,7 +21,7 @@ use Rattle.sweep.specs.Internal.Sweep.{words_after}
 use Rattle.scan.specs.Internal.Words.{answer_of, scanned_words, buffer_of}
 use Rattle.bank.specs.Internal.Load.{loaded_words}
 use Rattle.scan.specs.declared.answer.Answer.{Answer}
-use Rattle.scan.specs.declared.answer.Answer.TheVariants.{Events, Refused}
+use Rattle.scan.specs.declared.answer.Answer.TheVariants.{Events}
 use Rattle.scan.proofs.Bridge.{bank-after}
 use Rattle.scan.proofs.Fits.{stays_fit}
 use Rattle.bank.proofs.Loads.{loaded-bank, loaded-fits}

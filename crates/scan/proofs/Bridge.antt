@@ -3,35 +3,30 @@ use borrow.Author.Tests.{ltb-true, ltb-false}
 use mathlib.Core.Path.{◌≡◌, refl, sym, ap, ◌∙◌}
 use mathlib.Core.Bool.{Bool, true, false}
 use mathlib.Core.List.{List, [], ◌∷◌, ◌++◌}
-use Prim.Native.Nat.{ℕ, zero, suc, ◌+◌, ◌*◌, ◌≤◌, ◌<◌}
+use Prim.Native.Nat.{ℕ, zero, suc, ◌+◌, ◌≤◌, ◌<◌}
 use native.Mathlib.Nat.{zero-add}
-use native.Mathlib.Numerals.{add-one}
 use native.Mathlib.Omega.{arith}
 use lib.Dec.{ltb}
-use lib.ListN.{length, get_or, set, replicate, length-replicate}
-use lib.Seq.{sets, length-sets, get_or-set_same, ext_get_or}
+use lib.ListN.{length, get_or, replicate, length-replicate}
+use lib.Seq.{sets, get_or-set_same, ext_get_or}
 use Rattle.layout.proofs.Laws.{length-placed, placed-above, placed_below}
 use Rattle.wire.proofs.Laws.{below}
-use Rattle.settings.specs.Alarm.{blank}
 use Rattle.settings.specs.declared.counts.Counts.{Counts}
-use Rattle.settings.specs.declared.types.Alarm.{Alarm}
 use Rattle.settings.specs.declared.reply.Reply.{Reply}
 use Rattle.settings.specs.declared.reply.Reply.TheVariants.{Accepted}
 use Rattle.layout.specs.Internal.Block.{placed, counts_in, count_in, alarm_on, settings_in}
-use Rattle.scan_record.specs.Part.{time_of, record_size}
+use Rattle.scan_record.specs.Part.{time_of}
 use Rattle.scan_record.specs.Check.{check_from, check_record}
 use Rattle.scan_record.proofs.Entries.{PartRead, Whole, all_read, accepted-says}
-use Rattle.event.specs.Event.{Event}
 use Rattle.state.specs.Internal.Held.{fresh_state}
 use Rattle.state.specs.Internal.State.{State, Stepped, state_in, state_words, state_at}
 use Rattle.state.proofs.Back.{put_back, state-above, state-below}
 use Rattle.marks.specs.Internal.Marks.{mark_alarms}
-use Rattle.bank.specs.Internal.Bank.{Bank}
 use Rattle.sweep.specs.Internal.Sweep.{Ready, alarm_marks, place_step, alarm_events, step_on, events_on, stepped_from, marked_from, logged_from, words_after}
 use Rattle.scan.specs.Internal.Plan.{step_entry, step_part, step_at, plan_of, events_up_to}
 use Rattle.scan.specs.Internal.Scan.{check_of, plan_for, starts_after, events_in, bank_after}
 use Rattle.bank.specs.Lent.{Words}
-use Rattle.bank.specs.Internal.Words.{words_in, bank_in}
+use Rattle.bank.specs.Internal.Words.{bank_in}
 use Rattle.bank.proofs.Places.{alarm-there, state-there}
 use Rattle.sweep.proofs.Stepped.{small-on}
 use Rattle.sweep.proofs.Loops.{not_yet, stepped-length}

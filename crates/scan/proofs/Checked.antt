@@ -3,7 +3,7 @@ use borrow.Author.Tests.{ltb-false, lt-ltb, le-ltb}
 use mathlib.Core.Path.{◌≡◌, refl, sym, ap, ◌∙◌}
 use mathlib.Core.Bool.{Bool, true, false, cond}
 use mathlib.Core.List.{List, ◌++◌}
-use Prim.Native.Nat.{ℕ, ◌+◌, ◌*◌, ◌/◌, ◌≤◌, ◌<◌}
+use Prim.Native.Nat.{ℕ, ◌*◌, ◌/◌, ◌≤◌, ◌<◌}
 use native.Mathlib.Nat.{zero-add}
 use native.Mathlib.Omega.{arith}
 use lib.Dec.{ltb}
@@ -16,7 +16,7 @@ use Rattle.layout.specs.Internal.Block.{count_in}
 use Rattle.event.specs.Event.{Event, log_bytes}
 use Rattle.event.proofs.Logs.{log-length}
 use Rattle.bank.specs.Internal.Bank.{Bank}
-use Rattle.scan.specs.Internal.Scan.{Scanned, if_accepted, check_of, events_in, bank_after, refused_scan, checked_scan, checked_buffer, scan_of, event_buffer}
+use Rattle.scan.specs.Internal.Scan.{Scanned, if_accepted, check_of, events_in, bank_after, refused_scan, checked_scan, checked_buffer, event_buffer}
 use Rattle.bank.specs.Lent.{Words}
 use Rattle.bank.specs.Internal.Words.{bank_in}
 use Rattle.sweep.specs.Internal.Sweep.{logged_from, log_from, log_after, words_after}

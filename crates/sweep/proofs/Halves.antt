@@ -1,9 +1,9 @@
 -- Alarms stepped in two goes are stepped in one. Assumes nothing.
 use borrow.Author.Tests.{lt-ltb, le-ltb}
-use mathlib.Core.Path.{◌≡◌, refl, sym, ap, ◌∙◌}
+use mathlib.Core.Path.{◌≡◌, sym, ap, ◌∙◌}
 use mathlib.Core.Bool.{Bool, cond}
-use mathlib.Core.List.{List, [], ◌++◌, append-nil, append_assoc}
-use Prim.Native.Nat.{ℕ, zero, suc, ◌+◌, ◌*◌, ◌≤◌, ◌<◌}
+use mathlib.Core.List.{List, ◌++◌, append-nil, append_assoc}
+use Prim.Native.Nat.{ℕ, zero, suc, ◌+◌, ◌≤◌}
 use native.Mathlib.Nat.{add-zero, zero-add, add-suc}
 use native.Mathlib.Omega.{arith}
 use lib.ListN.{length, length-append}
@@ -11,13 +11,12 @@ use lib.Seq.{sets}
 use Rattle.wire.proofs.Laws.{sets-append}
 use Rattle.settings.specs.Counts.{form_at}
 use Rattle.settings.specs.declared.counts.Counts.{Counts}
-use Rattle.settings.specs.declared.types.Form.{Form}
 use Rattle.settings.specs.declared.types.Form.TheVariants.{Digital, Analog}
 use Rattle.layout.specs.Internal.Block.{counts_in, alarm_on}
 use Rattle.scan_record.specs.Part.{time_of, reading_at, word_at}
 use Rattle.event.specs.Event.{log_bytes}
 use Rattle.event.proofs.Logs.{log-append}
-use Rattle.state.specs.Internal.State.{State, Stepped, state_in, state_words, state_at}
+use Rattle.state.specs.Internal.State.{State, Stepped, state_words, state_at}
 use Rattle.sweep.specs.Internal.Step.{step_of}
 use Rattle.bank.specs.Lent.{Words}
 use Rattle.bank.specs.Internal.Words.{words_in}

@@ -1,7 +1,6 @@
 -- What the step keeps of an alarm after a list of scans, scan by scan; and the same read off the scans.
 use Rattle.std.specs.Prelude.{ℕ, ◌-◌, min, List, [], ◌∷◌, Bool, false, not, ◌&&◌, cond}
 use Rattle.wire.specs.Internal.Places.{free_events}
-use Rattle.settings.specs.Condition as Condition
 use Rattle.settings.specs.Condition.{Condition, In}
 use Rattle.settings.specs.Numbers.{Numbers, AnalogOf}
 use Rattle.settings.specs.declared.types.Alarm.{Alarm}

@@ -1,12 +1,9 @@
 -- Parts of a step on words, for the functions that work them out.
-use Rattle.std.specs.Prelude.{ℕ, suc, ◌+◌, ◌*◌, ◌-◌, ◌/◌, ◌%◌, ◌≡◌, Bool, true, not, ◌&&◌, ◌||◌, cond, List, [], ◌∷◌, leb, eqb, get_or, set, Float}
-use Rattle.std.specs.Float.{binary32}
-use Rattle.std.specs.Float.Ieee.{of_bits, to_bits}
+use Rattle.std.specs.Prelude.{ℕ, ◌+◌, ◌*◌, ◌-◌, ◌%◌, ◌≡◌, Bool, true, not, ◌&&◌, ◌||◌, cond, List, [], ◌∷◌, leb, eqb}
 use Rattle.wire.specs.Bits.{bit}
 use Rattle.wire.specs.Internal.Words.{word_of, spread}
 use Rattle.wire.specs.Internal.Places.{high_flag, low_flag, condition_unit, condition_bit}
-use Rattle.layout.specs.Internal.Words.{lower_of, upper_of, pair_of}
-use Rattle.settings.specs.Numbers.{new_rate}
+use Rattle.layout.specs.Internal.Words.{lower_of, upper_of}
 use Rattle.condition.specs.Internal.Outcome.{ack_bits}
 use Rattle.six.specs.Internal.Cells.{cells_of}
 use Rattle.six.specs.declared.decide.Cells.{Cells}

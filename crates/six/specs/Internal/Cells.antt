@@ -1,5 +1,5 @@
 -- The six conditions of an analog alarm in words of bits: met, freed, ready and acknowledged have a bit for each, at every third place.
-use Rattle.std.specs.Prelude.{ℕ, ◌+◌, ◌*◌, Bool, List, ◌++◌, take, drop}
+use Rattle.std.specs.Prelude.{ℕ, ◌*◌, Bool, List, ◌++◌, take, drop}
 use Rattle.wire.specs.Bits.{bit}
 use Rattle.wire.specs.Internal.Words.{word_of}
 use Rattle.wire.specs.Internal.Places.{condition_bit}

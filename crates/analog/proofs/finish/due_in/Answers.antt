@@ -1,5 +1,4 @@
 -- `analog::finish::due_in` meets its contract. Assumes nothing.
-use borrow.Author.Rules.{rules}
 use mathlib.Core.Path.{sym, ◌∙◌}
 use Rattle.analog.proofs.Asked.{ready-unasked, same-ready}
 use Rattle.analog.proofs.finish.due_in.Goals as goal

@@ -1,5 +1,4 @@
 -- `analog::finish::flags_after` meets its contract. Assumes nothing.
-use borrow.Author.Rules.{rules}
 use native.Mathlib.Nat.{div-one}
 use Rattle.analog.proofs.finish.flags_after.Goals as goal
 

@@ -1,6 +1,4 @@
 -- `analog::finish::ready_in` meets its contract. Assumes nothing.
-use borrow.Author.Rules.{rules}
-use mathlib.Core.Path.{◌∙◌}
 use Rattle.analog.specs.Internal.Packed.{ready_bits}
 use Rattle.analog.proofs.finish.ready_in.Goals as goal
 

@@ -1,5 +1,4 @@
 -- `analog::starts::begin_all` meets its contract. Assumes nothing.
-use borrow.Author.Rules.{rules}
 use mathlib.Core.Path.{◌≡◌, refl, sym, ◌∙◌}
 use mathlib.Core.Bool.{Bool, true, false, not, ◌&&◌, ◌||◌}
 use mathlib.Core.List.{List, [], ◌∷◌}
@@ -7,7 +6,6 @@ use borrow.Author.Tests.{eqb-true}
 use Prim.Native.Nat.{ℕ, ◌%◌}
 use native.Mathlib.Nat.{zero-div}
 use lib.Dec.{eqb}
-use lib.ListN.{replicate}
 use Rattle.wire.specs.Bits.{bit}
 use Rattle.wire.proofs.Laws.{and-true}
 use Rattle.wire.proofs.WordLaws.{bit-zero}

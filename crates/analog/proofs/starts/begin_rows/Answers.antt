@@ -1,5 +1,4 @@
 -- `analog::starts::begin_rows` meets its contract. Assumes nothing.
-use borrow.Author.Rules.{rules}
 use Prim.Native.Nat.{◌%◌}
 use lib.Dec.{eqb}
 use Rattle.wire.specs.Bits.{bit}

@@ -1,5 +1,4 @@
 -- `analog::starts::rows_begin` meets its contract. Assumes nothing.
-use borrow.Author.Rules.{rules}
 use Rattle.analog.proofs.Rows.{rows-begin, six-bits}
 use Rattle.analog.proofs.starts.rows_begin.Goals as goal
 

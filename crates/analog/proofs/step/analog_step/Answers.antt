@@ -1,5 +1,4 @@
 -- `analog::step::analog_step` meets its contract. Assumes nothing.
-use borrow.Author.Rules.{rules}
 use borrow.Author.Tests.{eqb-true}
 use mathlib.Core.Path.{◌≡◌, ap, ◌∙◌}
 use mathlib.Core.Bool.{Bool}
@@ -17,13 +16,12 @@ use Rattle.settings.specs.Numbers.{AnalogOf, real_of, reals, analog_reals}
 use Rattle.settings.specs.declared.types.Alarm.{Alarm}
 use Rattle.settings.specs.declared.types.Form.TheVariants.{Analog}
 use Rattle.settings.specs.declared.types.Reading.{Reading}
-use Rattle.layout.specs.Internal.Words.{lower_of, pair_of, alarm_in}
+use Rattle.layout.specs.Internal.Words.{pair_of, alarm_in}
 use Rattle.level.specs.Internal.Bits.{met_bits, frees_bits}
 use Rattle.condition.specs.Internal.Mode.{mode_bits}
 use Rattle.state.specs.Internal.State.{State, state_in}
 use Rattle.sample.specs.Internal.Sample.{rate_in, sample_in, sampled_in}
-use Rattle.state.specs.Internal.Starts.{keep_starts}
-use Rattle.analog.specs.Internal.Packed.{all_begin, enabled_in}
+use Rattle.analog.specs.Internal.Packed.{enabled_in}
 use Rattle.analog.proofs.Words.{beside-sample}
 use Rattle.analog.proofs.Steps.{met-sees, frees-sees, rate-pattern-is, rate-real, none-met, enabled-is, events-are, flags-are, analog-done, rest-done}
 use Rattle.analog.proofs.step.analog_step.Goals as goal

@@ -1,5 +1,4 @@
 -- `analog::step::frees_in` meets its contract. Assumes nothing.
-use borrow.Author.Rules.{rules}
 use mathlib.Core.Path.{sym, ◌∙◌}
 use Rattle.analog.proofs.Asked.{frees-unasked, same-frees}
 use Rattle.analog.proofs.step.frees_in.Goals as goal

@@ -1,6 +1,5 @@
 -- `bank::fit::fit` meets its contract: each return takes the case that its tests led to. Assumes nothing.
-use borrow.Author.Rules.{rules}
-use borrow.Author.Tests.{not-true, not-false, eq-eqb, ne_eqb}
+use borrow.Author.Tests.{eq-eqb, ne_eqb}
 use mathlib.Core.Path.{◌∙◌}
 use Rattle.bank.specs.Internal.Words.{fit_of}
 use Rattle.bank.proofs.fit.fit.Goals as goal

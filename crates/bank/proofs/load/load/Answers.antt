@@ -1,5 +1,4 @@
 -- `bank::load::load` meets its contract: each return takes the case that its tests led to. Assumes nothing.
-use borrow.Author.Rules.{rules}
 use borrow.Author.Tests.{eq-eqb, ne_eqb}
 use Rattle.bank.specs.Internal.Load.{load_reply, load_words, loaded_words, room_of}
 use Rattle.bank.proofs.load.load.Goals as goal

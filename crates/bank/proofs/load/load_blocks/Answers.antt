@@ -1,5 +1,4 @@
 -- `bank::load::load_blocks` meets its contract: the settings that were read, and zeros. Assumes nothing.
-use borrow.Author.Rules.{rules}
 use mathlib.Core.Path.{ap, ◌∙◌}
 use Prim.Native.Nat.{ℕ}
 use lib.ListN.{replicate}

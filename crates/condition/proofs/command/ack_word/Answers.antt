@@ -1,5 +1,4 @@
 -- `condition::command::ack_word` meets its contract: a bit for each condition, and none of a word that has none. Assumes nothing.
-use borrow.Author.Rules.{rules}
 use Rattle.condition.specs.Command.{acks}
 use Rattle.condition.specs.Internal.Outcome.{ack_bits}
 use Rattle.wire.specs.Internal.Words.{word_of, spread}

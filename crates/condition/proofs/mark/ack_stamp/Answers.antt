@@ -1,6 +1,4 @@
 -- `condition::mark::ack_stamp` meets its contract: each return takes the case that its tests led to. Assumes nothing.
-use Rattle.condition.proofs.mark.ack_stamp.Reads as reads
-use Rattle.condition.proofs.mark.ack_stamp.Lts as lts
 use Rattle.condition.proofs.mark.ack_stamp.Goals as goal
 
 -- src/mark.rt:36:9

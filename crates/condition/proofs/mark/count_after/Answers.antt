@@ -1,9 +1,5 @@
 -- `condition::mark::count_after` meets its contract: each return takes the case that its tests led to. Assumes nothing.
-use borrow.Author.Rules.{rules}
 use mathlib.Core.Path.{◌∙◌}
-use Rattle.condition.proofs.mark.count_after.Reads as reads
-use Rattle.condition.proofs.mark.count_after.Lts as lts
-use Rattle.condition.proofs.mark.count_up.Reads as count-up-reads
 use Rattle.condition.proofs.mark.count_after.Goals as goal
 
 -- src/mark.rt:14:1

@@ -1,8 +1,5 @@
 -- `condition::mark::count_up` meets its contract: each return takes the case that its test led to. Assumes nothing.
-use borrow.Author.Rules.{rules}
 use borrow.Author.Tests.{lt-ltb, le-ltb}
-use Rattle.condition.proofs.mark.count_up.Reads as reads
-use Rattle.condition.proofs.mark.count_up.Lts as lts
 use Rattle.condition.proofs.mark.count_up.Goals as goal
 
 -- src/mark.rt:7:1

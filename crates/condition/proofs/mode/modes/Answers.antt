@@ -1,5 +1,4 @@
 -- `condition::mode::modes` meets its contract: the bits after the scan and the events, packed. Assumes nothing.
-use borrow.Author.Rules.{rules}
 use Rattle.condition.specs.Internal.Mode.{mode_bits}
 use Rattle.wire.specs.Bits.{bit}
 use Rattle.wire.specs.Internal.Words.{word_of}

@@ -1,5 +1,4 @@
 -- `condition::outcome::condition` meets its contract: the bits of the outcome, packed. Assumes nothing.
-use borrow.Author.Rules.{rules}
 use native.Mathlib.Nat.{div-one}
 use mathlib.Core.Path.{◌∙◌}
 use Rattle.condition.proofs.outcome.condition.Goals as goal

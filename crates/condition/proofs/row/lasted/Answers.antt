@@ -1,5 +1,4 @@
 -- `condition::row::lasted` meets its contract: by the time that passed. Assumes nothing.
-use borrow.Author.Rules.{rules}
 use Rattle.condition.proofs.row.lasted.Goals as goal
 
 pub returns : goal.returns

@@ -1,12 +1,10 @@
 -- `digital::step::digital_step` meets its contract. Assumes nothing.
-use borrow.Author.Rules.{rules}
 use borrow.Author.Tests.{eqb-true}
 use mathlib.Core.Path.{◌≡◌, refl, sym, ap, ◌∙◌}
 use mathlib.Core.Bool.{Bool, not, ◌&&◌, ◌||◌, cond}
 use mathlib.Core.List.{List}
-use Prim.Native.Nat.{ℕ, ◌-◌, ◌%◌, ◌/◌}
+use Prim.Native.Nat.{ℕ, ◌-◌, ◌%◌}
 use lib.Dec.{eqb, leb}
-use lib.ListN.{set}
 use Rattle.wire.specs.Bits.{bit}
 use Rattle.wire.specs.Internal.Words.{word_of}
 use Rattle.wire.proofs.Laws.{and-true}

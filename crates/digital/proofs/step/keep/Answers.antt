@@ -1,5 +1,4 @@
 -- `digital::step::keep` meets its contract. Assumes nothing.
-use borrow.Author.Rules.{rules}
 use native.Mathlib.Omega.{arith}
 use lib.ListN.{length-set}
 use Rattle.digital.proofs.step.keep.Goals as goal

@@ -1,5 +1,4 @@
 -- `digital::step::rests` meets its contract. Assumes nothing.
-use borrow.Author.Rules.{rules}
 use native.Mathlib.Nat.{zero-add}
 use Rattle.digital.proofs.step.rests.Goals as goal
 

@@ -1,5 +1,4 @@
 -- `event::slot::condition_at` meets its contract: by the form. Assumes nothing.
-use borrow.Author.Rules.{rules}
 use Rattle.event.proofs.slot.condition_at.Goals as goal
 
 pub returns-in-Analog : goal.returns-in-Analog

@@ -1,5 +1,4 @@
 -- `event::slot::severity_at` meets its contract: by the form. Assumes nothing.
-use borrow.Author.Rules.{rules}
 use Rattle.event.proofs.slot.severity_at.Goals as goal
 
 pub returns-in-Digital : goal.returns-in-Digital

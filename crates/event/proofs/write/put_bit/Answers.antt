@@ -1,5 +1,4 @@
 -- `event::write::put_bit` meets its contract: a record where the bit is set, nothing otherwise. Assumes nothing.
-use borrow.Author.Rules.{rules}
 use mathlib.Core.Path.{sym, ap, ◌∙◌}
 use Prim.Native.Nat.{ℕ, ◌+◌}
 use native.Mathlib.Nat.{add-zero}

@@ -4,14 +4,14 @@ use borrow.Author.Rules.{rules}
 use borrow.Author.Tests.{ltb-true}
 use mathlib.Core.Bool.{Bool, true, ◌&&◌}
 use mathlib.Core.Path.{◌≡◌, refl, sym, ap, ◌∙◌}
-use Prim.Native.Nat.{ℕ, ◌+◌, ◌-◌, ◌<◌}
+use Prim.Native.Nat.{ℕ, ◌<◌}
 use native.Mathlib.Omega.{arith}
 use lib.Dec.{ltb}
 use lib.ListN.{length}
 use lib.Seq.{sets}
 use Rattle.wire.proofs.Laws.{and-true}
 use Rattle.layout.specs.Internal.Words.{kind_in}
-use Rattle.event.proofs.Groups.{log_from, length-next, sets-next, from_end}
+use Rattle.event.proofs.Groups.{length-next, sets-next, from_end}
 use Rattle.event.proofs.write.put_conditions.Goals as goal
 
 place-left : (n : ℕ) (b : Bool) → ltb n 6 && b ≡ true → n < 6

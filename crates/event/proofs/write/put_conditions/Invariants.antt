@@ -1,17 +1,11 @@
 -- `event::write::put_conditions` meets its contract: the invariant: writing the conditions from the place on gives what writing all gives,
 -- and room is left for them. The measure is the places left. Assumes nothing.
-use borrow.Author.Rules.{rules}
-use borrow.Author.Tests.{ltb-true}
-use mathlib.Core.Bool.{Bool, true, ◌&&◌}
-use mathlib.Core.Path.{◌≡◌, refl, sym, ap, ◌∙◌}
-use Prim.Native.Nat.{ℕ, ◌+◌, ◌-◌, ◌<◌}
-use native.Mathlib.Omega.{arith}
-use lib.Dec.{ltb}
+use mathlib.Core.Path.{◌≡◌}
+use Prim.Native.Nat.{◌+◌, ◌-◌}
 use lib.ListN.{length}
 use lib.Seq.{sets}
-use Rattle.wire.proofs.Laws.{and-true}
 use Rattle.layout.specs.Internal.Words.{kind_in}
-use Rattle.event.proofs.Groups.{log_from, length-next, sets-next, from_end}
+use Rattle.event.proofs.Groups.{log_from}
 use Rattle.event.proofs.write.put_conditions.Given as goal
 
 abbrev pub invariant-loop-place : goal.invariant-loop-place

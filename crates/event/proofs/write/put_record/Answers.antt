@@ -1,5 +1,4 @@
 -- `event::write::put_record` meets its contract: the head, then the time. Assumes nothing.
-use borrow.Author.Rules.{rules}
 use Rattle.event.proofs.Stores.{record-stores}
 use Rattle.event.proofs.write.put_record.Goals as goal
 

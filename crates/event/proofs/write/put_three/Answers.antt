@@ -1,5 +1,4 @@
 -- `event::write::put_three` meets its contract: bit by bit. Assumes nothing.
-use borrow.Author.Rules.{rules}
 use native.Mathlib.Omega.{arith}
 use Rattle.event.proofs.Stores.{three-length, three-stores}
 use Rattle.event.proofs.write.put_three.Goals as goal

@@ -1,5 +1,4 @@
 -- `event::write::put_whole` meets its contract: without bits nothing is written; otherwise three bits, then three, then three. Assumes nothing.
-use borrow.Author.Rules.{rules}
 use mathlib.Core.Path.{sym, ap, ◌∙◌}
 use Prim.Native.Nat.{ℕ, ◌/◌}
 use native.Mathlib.Nat.{add-zero}

@@ -1,5 +1,4 @@
 -- `host_bytes::answer::put_two` meets its contract. Assumes nothing.
-use borrow.Author.Rules.{rules}
 use mathlib.Core.Path.{◌∙◌}
 use Rattle.host_bytes.proofs.answer.put_two.Goals as goal
 

@@ -1,5 +1,4 @@
 -- `host_bytes::rows::put_flags` meets its contract: four bytes, one after the other. Assumes nothing.
-use borrow.Author.Rules.{rules}
 use mathlib.Core.Path.{◌∙◌}
 use native.Mathlib.Numerals.{add-one, add-two, add-three}
 use Rattle.host_bytes.proofs.rows.put_flags.Goals as goal

@@ -1,5 +1,4 @@
 -- `host_bytes::rows::put_report` meets its contract: the row of the whole alarm, then its conditions. Assumes nothing.
-use borrow.Author.Rules.{rules}
 use mathlib.Core.Path.{◌∙◌}
 use Rattle.host_bytes.proofs.Joined.{report-stores}
 use Rattle.host_bytes.proofs.rows.put_report.Goals as goal

@@ -1,5 +1,4 @@
 -- `host_bytes::rows::put_row` meets its contract: five stores, one after the other. Assumes nothing.
-use borrow.Author.Rules.{rules}
 use mathlib.Core.Path.{◌∙◌}
 use Rattle.host_bytes.proofs.Stores.{row-stores}
 use Rattle.host_bytes.proofs.rows.put_row.Goals as goal

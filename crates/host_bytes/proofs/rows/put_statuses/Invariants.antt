@@ -1,15 +1,10 @@
 -- `host_bytes::rows::put_statuses` meets its contract: the invariant: the conditions so far stand behind the start. The measure is the
 -- conditions left. Assumes nothing.
-use borrow.Author.Rules.{rules}
-use mathlib.Core.Path.{◌≡◌, refl, sym, ap, ◌∙◌}
-use Prim.Native.Nat.{ℕ, ◌+◌, ◌-◌, ◌*◌, ◌≤◌}
-use native.Mathlib.Omega.{arith}
+use mathlib.Core.Path.{◌≡◌}
+use Prim.Native.Nat.{◌-◌, ◌≤◌}
 use lib.ListN.{length}
 use lib.Seq.{sets}
-use Rattle.host_bytes.specs.Bytes.{row_bytes, joined, condition_bytes}
-use Rattle.host_bytes.specs.declared.rows.Row.{Row}
-use Rattle.host_bytes.proofs.Stores.{length-row}
-use Rattle.host_bytes.proofs.Joined.{joined-none, joined-next}
+use Rattle.host_bytes.specs.Bytes.{joined, condition_bytes}
 use Rattle.host_bytes.proofs.rows.put_statuses.Given as goal
 
 abbrev pub invariant-loop-i : goal.invariant-loop-i

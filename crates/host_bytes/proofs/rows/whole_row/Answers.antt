@@ -1,5 +1,4 @@
 -- `host_bytes::rows::whole_row` meets its contract. Assumes nothing.
-use borrow.Author.Rules.{rules}
 use Rattle.host_bytes.proofs.rows.whole_row.Goals as goal
 
 pub returns : goal.returns

@@ -1,6 +1,4 @@
 -- `image::write::has_room` meets its contract: each return takes the case that its test led to. Assumes nothing.
-use borrow.Author.Rules.{rules}
-use borrow.Author.Tests.{not-true, not-false}
 use Rattle.settings.proofs.Few.{few}
 use Rattle.image.specs.Internal.Write.{has_room}
 use Rattle.image.proofs.write.has_room.Goals as goal

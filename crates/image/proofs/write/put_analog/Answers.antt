@@ -1,5 +1,4 @@
 -- `image::write::put_analog` meets its contract: a byte and fifteen words, one after the other. Assumes nothing.
-use borrow.Author.Rules.{rules}
 use Rattle.image.specs.Internal.Write.{analog_bytes, severity_words, limit_words}
 use Rattle.wire.proofs.Laws.{byte-then, word-then, words-then, words-done}
 use native.Mathlib.Nat.{add_assoc}

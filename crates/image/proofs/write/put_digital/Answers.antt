@@ -1,5 +1,4 @@
 -- `image::write::put_digital` meets its contract: a byte and two words, one after the other. Assumes nothing.
-use borrow.Author.Rules.{rules}
 use Rattle.image.specs.Internal.Write.{digital_bytes}
 use Rattle.wire.proofs.Laws.{byte-then, word-then, words-done}
 use native.Mathlib.Nat.{add_assoc}

@@ -1,5 +1,4 @@
 -- `image::write::put_limits` meets its contract: seven words, one after the other. Assumes nothing.
-use borrow.Author.Rules.{rules}
 use Rattle.wire.proofs.Laws.{word-then, words-done}
 use mathlib.Core.Path.{sym}
 use native.Mathlib.Nat.{add_assoc}

@@ -1,5 +1,4 @@
 -- `image::write::put_record` meets its contract: by the form and the kind. Assumes nothing.
-use borrow.Author.Rules.{rules}
 use Rattle.image.proofs.Images.{length-digital, length-analog}
 use Rattle.image.specs.Internal.Write.{digital_bytes, analog_bytes, kind_bytes, record_bytes}
 use lib.ListN.{length}

@@ -3,12 +3,12 @@
 use borrow.Author.Rules.{rules}
 use Rattle.image.proofs.Images.{length-first, sets_first, records-none}
 use Rattle.image.proofs.Blocks.{length-read, read_at}
-use mathlib.Core.Path.{◌≡◌, refl, sym, ap, ◌∙◌}
-use Prim.Native.Nat.{◌+◌, ◌-◌, ◌≤◌, ◌<◌}
+use mathlib.Core.Path.{refl, sym, ap, ◌∙◌}
+use Prim.Native.Nat.{◌<◌}
 use native.Mathlib.Omega.{arith}
 use lib.ListN.{length}
-use lib.Seq.{sets, slice}
-use Rattle.image.specs.Internal.Write.{records_bytes, read_as}
+use lib.Seq.{sets}
+use Rattle.image.specs.Internal.Write.{read_as}
 use Rattle.image.proofs.write.put_records.Goals as goal
 
 pub loop-place-init : goal.loop-place-init

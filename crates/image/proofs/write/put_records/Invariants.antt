@@ -1,11 +1,7 @@
 -- `image::write::put_records` meets its contract: the invariant: writing the alarms that are left gives what writing all gives, and room is left
 -- for them. The measure is the places left. Assumes nothing.
-use borrow.Author.Rules.{rules}
-use Rattle.image.proofs.Images.{length-first, sets_first, records-none}
-use Rattle.image.proofs.Blocks.{length-read, read_at}
-use mathlib.Core.Path.{◌≡◌, refl, sym, ap, ◌∙◌}
-use Prim.Native.Nat.{◌+◌, ◌-◌, ◌≤◌, ◌<◌}
-use native.Mathlib.Omega.{arith}
+use mathlib.Core.Path.{◌≡◌}
+use Prim.Native.Nat.{◌+◌, ◌-◌, ◌≤◌}
 use lib.ListN.{length}
 use lib.Seq.{sets, slice}
 use Rattle.image.specs.Internal.Write.{records_bytes, read_as}

@@ -1,5 +1,4 @@
 -- `image::write::put_section` meets its contract: the count, then the records. Assumes nothing.
-use borrow.Author.Rules.{rules}
 use Rattle.image.proofs.Images.{section-length}
 use Rattle.image.specs.Internal.Write.{section_bytes, read_as}
 use native.Mathlib.Numerals.{add-one}

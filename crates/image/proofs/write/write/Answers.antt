@@ -1,8 +1,7 @@
 -- `image::write::write` meets its contract: words that are no settings block are refused. Assumes nothing.
-use borrow.Author.Rules.{rules}
 use Rattle.image.specs.Internal.Write.{write_of, write_buffer}
 use Rattle.wire.proofs.Laws.{and-true}
-use borrow.Author.Tests.{not-true, not-false, eqb-true}
+use borrow.Author.Tests.{eqb-true}
 use lib.ListN.{length, get_or}
 use lib.Dec.{eqb}
 use mathlib.Core.Path.{sym, ◌∙◌}

@@ -1,12 +1,10 @@
 -- `image::write::write_block` meets its contract: both sections one after the other, where there is room. Assumes nothing.
-use borrow.Author.Rules.{rules}
 use Rattle.image.specs.declared.write.Written.TheVariants.{Length}
 use Rattle.image.proofs.Images.{image-length, image-front, room, section-room}
 use Rattle.image.proofs.Blocks.{digital-same, analog-same}
 use Rattle.settings.specs.declared.types.Form.TheVariants.{Digital, Analog}
 use Rattle.layout.specs.Internal.Block.{count_in, settings_in}
 use Rattle.image.specs.Internal.Write.{written_of, image_buffer, read_as}
-use borrow.Author.Tests.{not-true, not-false}
 use Prim.Native.Nat.{◌≤◌}
 use native.Mathlib.Omega.{arith}
 use mathlib.Core.Path.{sym, ap, ◌∙◌}

@@ -1,9 +1,8 @@
 -- `layout::block::clear` meets its contract: the invariant: the words in front of this one are 0. The measure is the words left. Assumes nothing.
 use borrow.Author.Rules.{rules}
-use mathlib.Core.Path.{◌≡◌, refl, ◌∙◌}
-use Prim.Native.Nat.{ℕ, ◌-◌, ◌<◌, ◌≤◌}
+use mathlib.Core.Path.{refl, ◌∙◌}
 use native.Mathlib.Omega.{arith}
-use lib.ListN.{length, get_or, length-set}
+use lib.ListN.{length-set}
 use Rattle.layout.proofs.Blocks.{cleared-next, cleared}
 use Rattle.layout.proofs.block.clear.Goals as goal
 

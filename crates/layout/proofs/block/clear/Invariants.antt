@@ -1,10 +1,7 @@
 -- `layout::block::clear` meets its contract: the invariant: the words in front of this one are 0. The measure is the words left. Assumes nothing.
-use borrow.Author.Rules.{rules}
-use mathlib.Core.Path.{◌≡◌, refl, ◌∙◌}
+use mathlib.Core.Path.{◌≡◌}
 use Prim.Native.Nat.{ℕ, ◌-◌, ◌<◌, ◌≤◌}
-use native.Mathlib.Omega.{arith}
-use lib.ListN.{length, get_or, length-set}
-use Rattle.layout.proofs.Blocks.{cleared-next, cleared}
+use lib.ListN.{length, get_or}
 use Rattle.layout.proofs.block.clear.Given as goal
 
 abbrev pub invariant-loop-i : goal.invariant-loop-i

@@ -1,5 +1,4 @@
 -- `layout::block::is_block` meets its contract. Assumes nothing.
-use borrow.Author.Rules.{rules}
 use borrow.Author.Tests.{eq-eqb, ne_eqb}
 use Rattle.layout.proofs.block.is_block.Goals as goal
 

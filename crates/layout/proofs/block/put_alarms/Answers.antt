@@ -1,13 +1,9 @@
 -- `layout::block::put_alarms` meets its contract: the invariant: writing the alarms that are left gives what writing all gives, and the words say
 -- those in front. The measure is the places left. Assumes nothing.
 use borrow.Author.Rules.{rules}
-use mathlib.Core.Path.{◌≡◌, refl, sym, ◌∙◌}
-use Prim.Native.Nat.{◌-◌, ◌≤◌}
+use mathlib.Core.Path.{refl, sym, ◌∙◌}
 use native.Mathlib.Omega.{arith}
-use lib.ListN.{length}
-use lib.Seq.{sets}
-use Rattle.layout.specs.Internal.Block.{alarm_at, alarms_words, Says}
-use Rattle.layout.proofs.Blocks.{from, alarms-next, alarms-none, said-next}
+use Rattle.layout.proofs.Blocks.{alarms-next, alarms-none, said-next}
 use Rattle.layout.proofs.block.put_alarms.Goals as goal
 
 pub loop-place-init : goal.loop-place-init

@@ -1,5 +1,4 @@
 -- `layout::block::put_head` meets its contract: four stores, one after the other. Assumes nothing.
-use borrow.Author.Rules.{rules}
 use native.Mathlib.Omega.{arith}
 use lib.ListN.{length-set}
 use Rattle.layout.proofs.block.put_head.Goals as goal

@@ -1,5 +1,4 @@
 -- `layout::block::put_settings` meets its contract: zeros, the head, the alarms. Assumes nothing.
-use borrow.Author.Rules.{rules}
 use mathlib.Core.Path.{ap, ◌∙◌}
 use Prim.Native.Nat.{ℕ}
 use lib.ListN.{replicate}

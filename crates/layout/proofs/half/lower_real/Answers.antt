@@ -1,5 +1,4 @@
 -- `layout::half::lower_real` meets its contract: the pattern in the lower half. Assumes nothing.
-use borrow.Author.Rules.{rules}
 use Rattle.layout.proofs.half.lower_real.Goals as goal
 
 pub returns : goal.returns

@@ -1,5 +1,4 @@
 -- `layout::half::pattern` meets its contract: a REAL of 32 bits is said by its pattern. Assumes nothing.
-use borrow.Author.Rules.{rules}
 use lib.Dec.{T}
 use lib.Ieee.{binary32, fits}
 use lib.Ieee.Bits.{of_bits-to_bits}

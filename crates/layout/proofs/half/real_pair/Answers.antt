@@ -1,5 +1,4 @@
 -- `layout::half::real_pair` meets its contract: a pair of patterns. Assumes nothing.
-use borrow.Author.Rules.{rules}
 use Rattle.layout.proofs.half.real_pair.Goals as goal
 
 pub returns : goal.returns

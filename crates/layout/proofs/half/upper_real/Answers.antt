@@ -1,5 +1,4 @@
 -- `layout::half::upper_real` meets its contract: the pattern in the upper half. Assumes nothing.
-use borrow.Author.Rules.{rules}
 use Rattle.layout.proofs.half.upper_real.Goals as goal
 
 pub returns : goal.returns

@@ -1,5 +1,4 @@
 -- `layout::put::put_alarm` meets its contract: by the kind. Assumes nothing.
-use borrow.Author.Rules.{rules}
 use Rattle.layout.specs.Internal.Words.{alarm_words}
 use Rattle.layout.proofs.put.put_alarm.Goals as goal
 

@@ -1,5 +1,4 @@
 -- `layout::put::put_analog` meets its contract: two runs of four words. Assumes nothing.
-use borrow.Author.Rules.{rules}
 use Rattle.layout.proofs.Stores.{analog-put}
 use Rattle.layout.proofs.put.put_analog.Goals as goal
 

@@ -1,5 +1,4 @@
 -- `layout::put::put_digital` meets its contract: two runs of four words. Assumes nothing.
-use borrow.Author.Rules.{rules}
 use Rattle.layout.proofs.Stores.{digital-put}
 use Rattle.layout.proofs.put.put_digital.Goals as goal
 

@@ -1,5 +1,4 @@
 -- `layout::read::alarm_in` meets its contract: its parts. Assumes nothing.
-use borrow.Author.Rules.{rules}
 use Rattle.layout.specs.Internal.Words.{alarm_in}
 use Rattle.layout.proofs.read.alarm_in.Goals as goal
 

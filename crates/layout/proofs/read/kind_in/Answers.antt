@@ -1,5 +1,4 @@
 -- `layout::read::kind_in` meets its contract: by the form. Assumes nothing.
-use borrow.Author.Rules.{rules}
 use Rattle.layout.proofs.read.kind_in.Goals as goal
 
 pub returns-in-Digital : goal.returns-in-Digital

@@ -1,5 +1,4 @@
 -- `layout::read::limits_in` meets its contract: seven REALs. Assumes nothing.
-use borrow.Author.Rules.{rules}
 use Rattle.layout.specs.Internal.Words.{limits_in}
 use Rattle.layout.proofs.read.limits_in.Goals as goal
 

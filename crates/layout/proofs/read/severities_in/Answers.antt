@@ -1,5 +1,4 @@
 -- `layout::read::severities_in` meets its contract: six halves. Assumes nothing.
-use borrow.Author.Rules.{rules}
 use Rattle.layout.specs.Internal.Words.{severities_in}
 use Rattle.layout.proofs.read.severities_in.Goals as goal
 

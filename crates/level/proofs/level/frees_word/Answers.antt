@@ -1,5 +1,4 @@
 -- `level::level::frees_word` meets its contract: the comparisons, packed. Assumes nothing.
-use borrow.Author.Rules.{rules}
 use Rattle.level.specs.Level.{frees}
 use Rattle.level.specs.Internal.Bits.{frees_bits}
 use Rattle.level.proofs.level.frees_word.Goals as goal

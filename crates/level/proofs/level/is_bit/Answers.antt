@@ -1,5 +1,4 @@
 -- `level::level::is_bit` meets its contract: by the reading. Assumes nothing.
-use borrow.Author.Rules.{rules}
 use Rattle.level.proofs.level.is_bit.Goals as goal
 
 pub returns-in-Digital : goal.returns-in-Digital

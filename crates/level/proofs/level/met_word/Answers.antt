@@ -1,5 +1,4 @@
 -- `level::level::met_word` meets its contract: the comparisons, packed. Assumes nothing.
-use borrow.Author.Rules.{rules}
 use native.Mathlib.Nat.{div-one}
 use mathlib.Core.Bool.{and-false}
 use Rattle.level.specs.Level.{met}

@@ -1,5 +1,4 @@
 -- `level::rate::new_rate` meets its contract: by the period, as a REAL. Assumes nothing.
-use borrow.Author.Rules.{rules}
 use borrow.Author.Tests.{ne_eqb}
 use Rattle.settings.specs.Numbers.{new_rate}
 use Rattle.level.proofs.rate.new_rate.Goals as goal

@@ -1,5 +1,4 @@
 -- `level::rate::rate_pattern` meets its contract. Assumes nothing.
-use borrow.Author.Rules.{rules}
 use mathlib.Core.Path.{◌∙◌}
 use Rattle.level.proofs.rate.rate_pattern.Goals as goal
 

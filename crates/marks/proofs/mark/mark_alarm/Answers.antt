@@ -1,5 +1,4 @@
 -- `marks::mark::mark_alarm` meets its contract: the count reset stamp, and then the conditions. Assumes nothing.
-use borrow.Author.Rules.{rules}
 use mathlib.Core.Path.{◌∙◌}
 use native.Mathlib.Omega.{arith}
 use lib.ListN.{length-set}

@@ -4,12 +4,10 @@ use borrow.Author.Rules.{rules}
 use borrow.Author.Tests.{ltb-true}
 use mathlib.Core.Bool.{Bool, true, ◌&&◌}
 use mathlib.Core.Path.{◌≡◌, refl, ◌∙◌}
-use Prim.Native.Nat.{ℕ, ◌+◌, ◌*◌, ◌-◌, ◌/◌, ◌^◌, ◌≤◌, ◌<◌}
+use Prim.Native.Nat.{ℕ, ◌<◌}
 use native.Mathlib.Omega.{arith}
 use lib.Dec.{ltb}
-use lib.ListN.{length}
 use Rattle.wire.proofs.Laws.{and-true}
-use Rattle.wire.specs.Internal.Places.{from_condition}
 use Rattle.marks.specs.Internal.Marks.{mark_conditions, starts_in}
 use Rattle.marks.proofs.Still.{conditions-end}
 use Rattle.marks.proofs.Turns.{rest-next, start-in, conditions-next}

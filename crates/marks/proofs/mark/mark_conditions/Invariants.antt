@@ -1,18 +1,10 @@
 -- `marks::mark::mark_conditions` meets its contract: the invariant: the conditions before the place are marked, and the rest of the events
 -- are those from it on. The measure is the places left. Assumes nothing.
-use borrow.Author.Rules.{rules}
-use borrow.Author.Tests.{ltb-true}
-use mathlib.Core.Bool.{Bool, true, ◌&&◌}
-use mathlib.Core.Path.{◌≡◌, refl, ◌∙◌}
-use Prim.Native.Nat.{ℕ, ◌+◌, ◌*◌, ◌-◌, ◌/◌, ◌^◌, ◌≤◌, ◌<◌}
-use native.Mathlib.Omega.{arith}
-use lib.Dec.{ltb}
+use mathlib.Core.Path.{◌≡◌}
+use Prim.Native.Nat.{◌-◌, ◌≤◌}
 use lib.ListN.{length}
-use Rattle.wire.proofs.Laws.{and-true}
 use Rattle.wire.specs.Internal.Places.{from_condition}
 use Rattle.marks.specs.Internal.Marks.{mark_conditions, starts_in}
-use Rattle.marks.proofs.Still.{conditions-end}
-use Rattle.marks.proofs.Turns.{rest-next, start-in, conditions-next}
 use Rattle.marks.proofs.mark.mark_conditions.Given as goal
 
 abbrev pub invariant-loop-place : goal.invariant-loop-place

@@ -1,5 +1,4 @@
 -- `marks::mark::required_in` meets its contract: by the form. Assumes nothing.
-use borrow.Author.Rules.{rules}
 use Rattle.layout.specs.Internal.Words.{alarm_in}
 use Rattle.marks.proofs.mark.required_in.Goals as goal
 

@@ -1,5 +1,4 @@
 -- `marks::words::mark_condition` meets its contract: four words are read, then four stored, one after the other. Assumes nothing.
-use borrow.Author.Rules.{rules}
 use native.Mathlib.Omega.{arith}
 use lib.ListN.{length-set}
 use Rattle.marks.proofs.Stores.{condition-stores}

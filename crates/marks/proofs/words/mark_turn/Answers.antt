@@ -1,5 +1,4 @@
 -- `marks::words::mark_turn` meets its contract: without events and a reset nothing changes; otherwise by the callee. Assumes nothing.
-use borrow.Author.Rules.{rules}
 use borrow.Author.Tests.{eqb-true, not-true}
 use mathlib.Core.Bool.{not}
 use mathlib.Core.Path.{sym}

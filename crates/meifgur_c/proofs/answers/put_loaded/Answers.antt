@@ -1,5 +1,4 @@
 -- `meifgur_c::answers::put_loaded` meets its contract. Assumes nothing.
-use borrow.Author.Rules.{rules}
 use mathlib.Core.Path.{refl}
 use Rattle.meifgur_c.proofs.answers.put_loaded.Goals as goal
 

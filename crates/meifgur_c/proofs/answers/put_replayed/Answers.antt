@@ -1,6 +1,5 @@
 -- `meifgur_c::answers::put_replayed` meets its contract. Assumes nothing.
-use borrow.Author.Rules.{rules}
-use mathlib.Core.Path.{refl, sym, ap, ◌∙◌}
+use mathlib.Core.Path.{sym, ap, ◌∙◌}
 use lib.Seq.{sets}
 use Rattle.settings.specs.declared.reply.Reply.{Reply}
 use Rattle.meifgur_c.specs.Calls.{reply_number, replay_words}

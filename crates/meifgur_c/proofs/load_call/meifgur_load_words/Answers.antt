@@ -1,5 +1,4 @@
 -- `meifgur_c::load_call::meifgur_load_words` meets its contract. Assumes nothing.
-use borrow.Author.Rules.{rules}
 use borrow.Author.Tests.{lt-ltb, le-ltb}
 use mathlib.Core.Path.{refl, ap, ◌∙◌}
 use lib.ListN.{length}

@@ -1,5 +1,4 @@
 -- `meifgur_c::replay_call::meifgur_replay_words` meets its contract. Assumes nothing.
-use borrow.Author.Rules.{rules}
 use borrow.Author.Tests.{lt-ltb, le-ltb}
 use mathlib.Core.Path.{refl, ap, ◌∙◌}
 use lib.ListN.{length}

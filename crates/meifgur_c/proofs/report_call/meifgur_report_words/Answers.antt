@@ -1,10 +1,7 @@
 -- `meifgur_c::report_call::meifgur_report_words` meets its contract. Assumes nothing.
-use borrow.Author.Rules.{rules}
 use borrow.Author.Tests.{lt-ltb, le-ltb}
-use mathlib.Core.Path.{◌≡◌, refl, ap, ◌∙◌}
-use mathlib.Core.List.{List, [], ◌∷◌}
-use Prim.Native.Nat.{ℕ}
-use lib.ListN.{length, get_or}
+use mathlib.Core.Path.{refl, ap, ◌∙◌}
+use lib.ListN.{length}
 use lib.Seq.{sets}
 use Rattle.report.specs.declared.report.AlarmReport.{AlarmReport}
 use Rattle.meifgur_c.specs.Calls.{reply_number, reply_words, report_out}

@@ -1,5 +1,4 @@
 -- `meifgur_c::report_call::put_said` meets its contract. Assumes nothing.
-use borrow.Author.Rules.{rules}
 use mathlib.Core.Path.{sym, ap, ◌∙◌}
 use lib.Seq.{sets}
 use Rattle.settings.specs.declared.reply.Reply.{Reply}

@@ -1,10 +1,7 @@
 -- `meifgur_c::write_call::meifgur_write_words` meets its contract. Assumes nothing.
-use borrow.Author.Rules.{rules}
 use borrow.Author.Tests.{lt-ltb, le-ltb}
-use mathlib.Core.Path.{◌≡◌, refl, ap, ◌∙◌}
-use mathlib.Core.List.{List, [], ◌∷◌}
-use Prim.Native.Nat.{ℕ}
-use lib.ListN.{length, get_or}
+use mathlib.Core.Path.{refl, ap, ◌∙◌}
+use lib.ListN.{length}
 use lib.Seq.{sets}
 use Rattle.image.specs.declared.write.Written.{Written}
 use Rattle.meifgur_c.specs.Calls.{write_number, write_answer}

@@ -1,7 +1,5 @@
 -- `reader::count::count_at` meets its contract: each return takes the case that its tests led to. Assumes nothing.
-use borrow.Author.Rules.{rules}
 use borrow.Author.Tests.{le-ltb, lt-ltb, le-leb, lt-leb}
-use native.Mathlib.Omega.{arith}
 use Rattle.reader.specs.Count.{count_at}
 use Rattle.reader.proofs.count.count_at.Goals as goal
 

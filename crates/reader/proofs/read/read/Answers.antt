@@ -1,5 +1,4 @@
 -- `reader::read::read` meets its contract: the digital section has at most 12 alarms, then the rest. Assumes nothing.
-use borrow.Author.Rules.{rules}
 use Rattle.reader.proofs.Sections.{section-most}
 use Rattle.reader.specs.declared.section.Filled.{Filled}
 use Rattle.reader.specs.Read.{read_of}

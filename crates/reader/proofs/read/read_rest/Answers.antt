@@ -1,5 +1,4 @@
 -- `reader::read::read_rest` meets its contract: each return takes the case that the section and the end led to. Assumes nothing.
-use borrow.Author.Rules.{rules}
 use borrow.Author.Tests.{lt-ltb, le-ltb}
 use Rattle.reader.specs.Read.{rest_of}
 use Rattle.reader.proofs.read.read_rest.Goals as goal

@@ -1,9 +1,9 @@
 -- `reader::section::records` meets its contract: the invariant: reading on from here gives what reading from the first place gives. The
 -- measure is the places left. Assumes nothing.
 use borrow.Author.Rules.{rules}
-use mathlib.Core.Path.{◌≡◌, refl, sym, ap, ◌∙◌}
+use mathlib.Core.Path.{refl, sym, ap, ◌∙◌}
 use native.Mathlib.Omega.{arith}
-use Prim.Native.Nat.{ℕ, ◌-◌, ◌≤◌}
+use Prim.Native.Nat.{ℕ, ◌-◌}
 use Rattle.reader.specs.Section.{records_from}
 use Rattle.reader.proofs.Sections.{records-next, records-stop, records-end}
 use Rattle.reader.proofs.section.records.Goals as goal

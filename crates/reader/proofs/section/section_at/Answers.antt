@@ -1,5 +1,4 @@
 -- `reader::section::section_at` meets its contract: a count of at most 12 leaves room for its alarms. Assumes nothing.
-use borrow.Author.Rules.{rules}
 use Rattle.reader.specs.Section.{records_from}
 use Prim.Native.Nat.{ℕ}
 use native.Mathlib.Nat.{add-sub_cancel_left}

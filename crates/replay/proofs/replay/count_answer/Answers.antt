@@ -1,9 +1,5 @@
 -- `replay::replay::count_answer` meets its contract: by the answer. Assumes nothing.
-use borrow.Author.Rules.{rules}
-use mathlib.Core.Path.{refl, ap}
-use native.Mathlib.Omega.{arith}
-use Rattle.scan.specs.declared.answer.Answer.{Answer}
-use Rattle.replay.specs.Replay.{counted}
+use mathlib.Core.Path.{refl}
 use Rattle.replay.proofs.replay.count_answer.Goals as goal
 
 pub returns-in-Events : goal.returns-in-Events

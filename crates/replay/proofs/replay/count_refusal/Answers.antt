@@ -1,5 +1,4 @@
 -- `replay::replay::count_refusal` meets its contract: the first refusal is kept. Assumes nothing.
-use borrow.Author.Rules.{rules}
 use borrow.Author.Tests.{ne_eqb}
 use Rattle.replay.proofs.replay.count_refusal.Goals as goal
 

@@ -1,5 +1,4 @@
 -- `replay::replay::replay` meets its contract: by whether the words hold a bank. Assumes nothing.
-use borrow.Author.Rules.{rules}
 use mathlib.Core.Path.{◌≡◌, sym, ap, ◌∙◌}
 use mathlib.Core.List.{List}
 use Prim.Native.Nat.{ℕ}

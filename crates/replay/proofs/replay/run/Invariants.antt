@@ -1,14 +1,9 @@
 -- `replay::replay::run` meets its contract: the invariant: words, tally and buffer are those after the records so far, and the next one
 -- begins here. The measure is the bytes left. Assumes nothing.
-use borrow.Author.Rules.{rules}
-use mathlib.Core.Path.{ap}
 use Prim.Native.Nat.{◌-◌}
-use native.Mathlib.Omega.{arith}
 use lib.ListN.{length}
 use Rattle.bank.specs.Internal.Words.{words_in}
-use Rattle.replay.proofs.Runs.{Going, going-first, least, has_room, same_length as buffer-kept, still_alike, few-refused, few-records, answer-fits}
-use Rattle.replay.proofs.Runs.{onward-is, going_next, going_end}
-use Rattle.replay.specs.Replay.{Progress}
+use Rattle.replay.proofs.Runs.{Going}
 use Rattle.replay.proofs.replay.run.Given as goal
 
 abbrev pub invariant-loop-at : goal.invariant-loop-at

@@ -1,6 +1,4 @@
 -- `report::report::is_there` meets its contract: each return takes the case that its test led to. Assumes nothing.
-use borrow.Author.Rules.{rules}
-use borrow.Author.Tests.{not-true, not-false}
 use Rattle.settings.proofs.Few.{few}
 use Rattle.report.specs.Internal.Report.{is_there}
 use Rattle.report.proofs.report.is_there.Goals as goal

@@ -1,5 +1,4 @@
 -- `report::report::refused_report` meets its contract. Assumes nothing.
-use borrow.Author.Rules.{rules}
 use Rattle.report.specs.Empty.{refused_report}
 use Rattle.report.proofs.report.refused_report.Goals as goal
 

@@ -1,5 +1,4 @@
 -- `report::report::report` meets its contract: by what the fit says. Assumes nothing.
-use borrow.Author.Rules.{rules}
 use mathlib.Core.Path.{sym, ◌∙◌}
 use Rattle.bank.proofs.Places.{fit-says}
 use Rattle.report.proofs.Reports.{report-accepted, report-unfit}

@@ -1,5 +1,4 @@
 -- `report::status::analog_statuses` meets its contract. Assumes nothing.
-use borrow.Author.Rules.{rules}
 use Rattle.report.specs.Internal.Status.{analog_statuses}
 use Rattle.report.proofs.status.analog_statuses.Goals as goal
 

@@ -1,5 +1,4 @@
 -- `report::status::digital_statuses` meets its contract. Assumes nothing.
-use borrow.Author.Rules.{rules}
 use Rattle.report.specs.Internal.Status.{digital_statuses}
 use Rattle.report.proofs.status.digital_statuses.Goals as goal
 

@@ -1,5 +1,4 @@
 -- `report::status::no_statuses` meets its contract. Assumes nothing.
-use borrow.Author.Rules.{rules}
 use Rattle.report.specs.Empty.{no_statuses}
 use Rattle.report.proofs.status.no_statuses.Goals as goal
 

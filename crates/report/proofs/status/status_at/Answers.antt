@@ -1,5 +1,4 @@
 -- `report::status::status_at` meets its contract. Assumes nothing.
-use borrow.Author.Rules.{rules}
 use native.Mathlib.Nat.{div-one}
 use Rattle.report.specs.Internal.Status.{status_at}
 use Rattle.report.proofs.status.status_at.Goals as goal

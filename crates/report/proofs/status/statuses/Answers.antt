@@ -1,5 +1,4 @@
 -- `report::status::statuses` meets its contract: by the kind. Assumes nothing.
-use borrow.Author.Rules.{rules}
 use Rattle.report.proofs.status.statuses.Goals as goal
 
 pub returns-in-Digital : goal.returns-in-Digital

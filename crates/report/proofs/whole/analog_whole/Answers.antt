@@ -1,5 +1,4 @@
 -- `report::whole::analog_whole` meets its contract. Assumes nothing.
-use borrow.Author.Rules.{rules}
 use native.Mathlib.Nat.{div-one, add-zero}
 use Rattle.state.specs.Internal.State.{state_in}
 use Rattle.report.proofs.whole.analog_whole.Goals as goal

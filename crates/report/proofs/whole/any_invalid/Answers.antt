@@ -1,5 +1,4 @@
 -- `report::whole::any_invalid` meets its contract. Assumes nothing.
-use borrow.Author.Rules.{rules}
 use Rattle.report.specs.Internal.Whole.{any_invalid}
 use Rattle.report.proofs.whole.any_invalid.Goals as goal
 

@@ -1,5 +1,4 @@
 -- `report::whole::digital_whole` meets its contract. Assumes nothing.
-use borrow.Author.Rules.{rules}
 use native.Mathlib.Nat.{div-one, add-zero}
 use Rattle.state.specs.Internal.State.{state_in}
 use Rattle.report.proofs.whole.digital_whole.Goals as goal

@@ -1,6 +1,4 @@
 -- `report::whole::elapsed_run` meets its contract: each return takes the case that its tests led to. Assumes nothing.
-use borrow.Author.Rules.{rules}
-use borrow.Author.Tests.{not-true, not-false}
 use native.Mathlib.Omega.{arith}
 use Rattle.report.proofs.whole.elapsed_run.Goals as goal
 

@@ -1,5 +1,4 @@
 -- `report::whole::whole_alarm` meets its contract: by the kind. Assumes nothing.
-use borrow.Author.Rules.{rules}
 use Rattle.report.specs.Internal.Whole.{whole_of}
 use Rattle.report.proofs.whole.whole_alarm.Goals as goal
 

@@ -1,5 +1,4 @@
 -- `sample::sample::new_rate` meets its contract. Assumes nothing.
-use borrow.Author.Rules.{rules}
 use mathlib.Core.Path.{◌∙◌}
 use Rattle.sample.proofs.sample.new_rate.Goals as goal
 

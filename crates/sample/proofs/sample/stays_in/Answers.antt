@@ -1,5 +1,4 @@
 -- `sample::sample::stays_in` meets its contract. Assumes nothing.
-use borrow.Author.Rules.{rules}
 use Rattle.sample.proofs.sample.stays_in.Goals as goal
 
 pub returns : goal.returns

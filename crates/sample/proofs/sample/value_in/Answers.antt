@@ -1,5 +1,4 @@
 -- `sample::sample::value_in` meets its contract. Assumes nothing.
-use borrow.Author.Rules.{rules}
 use Rattle.sample.proofs.sample.value_in.Goals as goal
 
 pub returns-else-stays : goal.returns-else-stays

@@ -2,9 +2,9 @@
 use borrow.Author.Rules.{rules}
 use mathlib.Core.Path.{◌≡◌, refl, ap, ◌∙◌}
 use mathlib.Core.List.{List}
-use Prim.Native.Nat.{ℕ, ◌+◌, ◌-◌, ◌≤◌}
+use Prim.Native.Nat.{ℕ}
 use native.Mathlib.Omega.{arith}
-use lib.ListN.{length, get_or, set, take, length-set}
+use lib.ListN.{get_or, set, take, length-set}
 use lib.Seq.{sets}
 use Rattle.scan.proofs.Copies.{next-copied}
 use Rattle.scan.proofs.copy.copy_bytes.Goals as goal

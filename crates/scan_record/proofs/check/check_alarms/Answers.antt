@@ -1,5 +1,4 @@
 -- `scan_record::check::check_alarms` meets its contract: the digital alarms and then the analog ones are all alarms. Assumes nothing.
-use borrow.Author.Rules.{rules}
 use mathlib.Core.Path.{◌≡◌}
 use Prim.Native.Nat.{◌-◌}
 use native.Mathlib.Nat.{sub-zero}

@@ -1,11 +1,8 @@
 -- `scan_record::check::check_form` meets its contract: the invariant: checking on from here answers what checking from the first alarm answers,
 -- and the parts left fit. The measure is the alarms left. Assumes nothing.
-use borrow.Author.Rules.{rules}
-use mathlib.Core.Path.{◌≡◌, refl, sym, ap, ◌∙◌}
-use Prim.Native.Nat.{ℕ, ◌+◌, ◌*◌, ◌-◌, ◌≤◌, ◌<◌}
+use mathlib.Core.Path.{refl, sym, ap, ◌∙◌}
+use Prim.Native.Nat.{ℕ, ◌+◌, ◌-◌, ◌<◌}
 use native.Mathlib.Omega.{arith}
-use lib.ListN.{length}
-use Rattle.scan_record.specs.Part.{entry_size}
 use Rattle.scan_record.specs.Internal.Forms.{check_form}
 use Rattle.scan_record.proofs.Entries.{entry_past}
 use Rattle.scan_record.proofs.Forms.{form-next, form-stop, form-end, part-fits}

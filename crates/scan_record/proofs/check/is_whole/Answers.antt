@@ -1,5 +1,4 @@
 -- `scan_record::check::is_whole` meets its contract: where no bank has the counts, the length does not matter. Assumes nothing.
-use borrow.Author.Rules.{rules}
 use mathlib.Core.Path.{◌≡◌, refl}
 use mathlib.Core.Bool.{Bool, true, false, ◌&&◌, cond}
 use Prim.Native.Nat.{ℕ}

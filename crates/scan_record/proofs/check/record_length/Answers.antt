@@ -1,6 +1,5 @@
 -- `scan_record::check::record_length` meets its contract: each return takes the case that its test led to. Assumes nothing.
 use borrow.Author.Rules.{rules}
-use borrow.Author.Tests.{not-true, not-false}
 use Rattle.settings.proofs.Few.{few}
 use Rattle.scan_record.specs.Internal.Size.{length_of}
 use Rattle.scan_record.proofs.check.record_length.Goals as goal

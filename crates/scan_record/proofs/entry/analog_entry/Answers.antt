@@ -1,9 +1,7 @@
 -- `scan_record::entry::analog_entry` meets its contract: each return takes the case that its tests led to. Assumes nothing.
-use borrow.Author.Rules.{rules}
 use Rattle.settings.specs.Refusals.{checked}
 use Rattle.scan_record.specs.Entry.{entry_at}
 use mathlib.Core.Path.{◌∙◌}
-use borrow.Author.Tests.{not-true, not-false}
 use Rattle.scan_record.proofs.entry.analog_entry.Goals as goal
 
 pub returns-then-not-is_bounded_pattern : goal.returns-then-not-is_bounded_pattern

@@ -1,5 +1,4 @@
 -- `scan_record::entry::command_bits` meets its contract: each mask has its form's bits. Assumes nothing.
-use borrow.Author.Rules.{rules}
 use Rattle.wire.specs.Bits.{is_one_of}
 use Rattle.wire.specs.Internal.Words.{mask_of}
 use Rattle.scan_record.proofs.entry.command_bits.Goals as goal

@@ -1,9 +1,8 @@
 -- `scan_record::entry::digital_entry` meets its contract: each return takes the case that its tests led to. Assumes nothing.
-use borrow.Author.Rules.{rules}
 use Rattle.settings.specs.Refusals.{checked}
 use Rattle.scan_record.specs.Entry.{entry_at}
 use mathlib.Core.Path.{◌∙◌}
-use borrow.Author.Tests.{le-leb, lt-leb, not-true, not-false}
+use borrow.Author.Tests.{le-leb, lt-leb}
 use Rattle.scan_record.proofs.entry.digital_entry.Goals as goal
 
 pub returns-then-input-gt1 : goal.returns-then-input-gt1

@@ -1,5 +1,4 @@
 -- `scan_record::entry::entry_at` meets its contract: by the form. Assumes nothing.
-use borrow.Author.Rules.{rules}
 use Rattle.scan_record.proofs.entry.entry_at.Goals as goal
 
 pub digital_entry-requires : goal.digital_entry-requires

@@ -1,5 +1,4 @@
 -- `scan_record::entry::is_command` meets its contract: what a mask leaves of a word. Assumes nothing.
-use borrow.Author.Rules.{rules}
 use native.Mathlib.Omega.{arith}
 use Rattle.wire.proofs.Masks.{mask-says}
 use Rattle.scan_record.specs.Entry.{bits_of}

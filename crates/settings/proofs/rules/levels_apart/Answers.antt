@@ -1,5 +1,4 @@
 -- `settings::rules::levels_apart` meets its contract: both rules, joined. Assumes nothing.
-use borrow.Author.Rules.{rules}
 use Rattle.settings.specs.Rules.{apart}
 use Rattle.settings.proofs.rules.levels_apart.Goals as goal
 

@@ -1,5 +1,4 @@
 -- `settings::rules::levels_rise` meets its contract: the six pairs, joined. Assumes nothing.
-use borrow.Author.Rules.{rules}
 use native.Mathlib.Nat.{div-one}
 use Rattle.settings.specs.Rules.{rising}
 use Rattle.settings.proofs.rules.levels_rise.Goals as goal

@@ -1,5 +1,4 @@
 -- `settings::rules::limits_in_range` meets its contract: the tests of the seven REALs, joined. Assumes nothing.
-use borrow.Author.Rules.{rules}
 use Rattle.settings.specs.Rules.{limits_in_range}
 use Rattle.settings.proofs.rules.limits_in_range.Goals as goal
 

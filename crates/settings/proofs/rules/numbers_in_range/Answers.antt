@@ -1,5 +1,4 @@
 -- `settings::rules::numbers_in_range` meets its contract: the REALs, the period and the duration, joined. Assumes nothing.
-use borrow.Author.Rules.{rules}
 use Rattle.settings.specs.Rules.{in_range}
 use Rattle.settings.proofs.rules.numbers_in_range.Goals as goal
 

@@ -1,5 +1,4 @@
 -- `settings::rules::sides_apart` meets its contract: the limits that the flags choose, and the two inequalities. Assumes nothing.
-use borrow.Author.Rules.{rules}
 use native.Mathlib.Nat.{div-one}
 use Rattle.settings.specs.Rules.{banded}
 use Rattle.settings.proofs.rules.sides_apart.Goals as goal

@@ -1,9 +1,6 @@
 -- `settings::severity::acting_severity` meets its contract: each return takes the case that its tests led to. Assumes nothing.
-use borrow.Author.Rules.{rules}
 use Rattle.settings.specs.Severity.{acting}
 use borrow.Author.Tests.{eq-eqb, ne_eqb, lt-ltb, le-ltb, le-leb}
-use Rattle.settings.proofs.severity.acting_severity.Reads as reads
-use Rattle.settings.proofs.severity.acting_severity.Lts as lts
 use Rattle.settings.proofs.severity.acting_severity.Goals as goal
 
 -- src/severity.rt:11:9

@@ -1,5 +1,4 @@
 -- `settings::types::blank_alarms` meets its contract: 24 places, each blank. Assumes nothing.
-use borrow.Author.Rules.{rules}
 use Rattle.settings.specs.Alarm.{blanks}
 use Rattle.settings.proofs.types.blank_alarms.Goals as goal
 

@@ -1,5 +1,4 @@
 -- `settings::types::no_alarms` meets its contract: no counts and blank places. Assumes nothing.
-use borrow.Author.Rules.{rules}
 use Rattle.settings.specs.Alarm.{empty}
 use Rattle.settings.proofs.types.no_alarms.Goals as goal
 

@@ -1,9 +1,8 @@
 -- `settings_record::record::analog_record` meets its contract: each return takes the case that its tests led to. Assumes nothing.
-use borrow.Author.Rules.{rules}
 use mathlib.Core.Path.{◌∙◌}
 use Rattle.settings_record.specs.Record.{fields_at}
 use Rattle.settings.specs.Refusals.{checked}
-use borrow.Author.Tests.{le-ltb, lt-ltb, not-true, not-false}
+use borrow.Author.Tests.{le-ltb, lt-ltb}
 use Rattle.settings_record.proofs.record.analog_record.Goals as goal
 
 pub returns-then-flags-ge32 : goal.returns-then-flags-ge32

@@ -1,5 +1,4 @@
 -- `settings_record::record::digital_record` meets its contract: each return takes the case that its tests led to. Assumes nothing.
-use borrow.Author.Rules.{rules}
 use mathlib.Core.Path.{◌∙◌}
 use Rattle.settings_record.specs.Record.{fields_at}
 use Rattle.settings.specs.Refusals.{checked}

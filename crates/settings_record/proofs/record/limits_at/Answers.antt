@@ -1,5 +1,4 @@
 -- `settings_record::record::limits_at` meets its contract: seven REALs. Assumes nothing.
-use borrow.Author.Rules.{rules}
 use Rattle.settings_record.specs.Record.{limits_at}
 use Rattle.settings_record.proofs.record.limits_at.Goals as goal
 

@@ -1,12 +1,11 @@
 -- `settings_record::record::record_at` meets its contract: a record that is there whole is read as its form says. Assumes nothing.
-use borrow.Author.Rules.{rules}
 use mathlib.Core.Bool.{Bool, true}
 use lib.Dec.{leb}
 use lib.ListN.{length}
 use Prim.Native.Nat.{ℕ, ◌+◌, ◌≤◌}
 use mathlib.Core.Path.{◌≡◌, sym, ◌∙◌}
 use Rattle.settings.specs.declared.types.Form.{Form}
-use borrow.Author.Tests.{le-leb, leb-true, not-true, not-false}
+use borrow.Author.Tests.{le-leb, leb-true}
 use Rattle.settings_record.specs.Record.{size_of, record_at}
 use Rattle.settings.specs.Refusals.{checked}
 use Rattle.settings_record.proofs.record.record_at.Goals as goal

@@ -1,5 +1,4 @@
 -- `settings_record::record::severities_at` meets its contract: six words. Assumes nothing.
-use borrow.Author.Rules.{rules}
 use Rattle.settings_record.specs.Record.{severities_at}
 use Rattle.settings_record.proofs.record.severities_at.Goals as goal
 

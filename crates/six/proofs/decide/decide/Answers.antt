@@ -1,5 +1,4 @@
 -- `six::decide::decide` meets its contract: six outcomes at once, by masks. Assumes nothing.
-use borrow.Author.Rules.{rules}
 use mathlib.Core.Path.{ap₂, ◌∙◌}
 use Prim.Native.Nat.{ℕ}
 use Rattle.six.specs.Internal.Cells.{cells_of}

@@ -4,12 +4,12 @@ use mathlib.Core.Path.{◌≡◌, sym, ap, ◌∙◌}
 use mathlib.Core.List.{List, []}
 use Prim.Native.Nat.{ℕ, ◌+◌, ◌*◌}
 use native.Mathlib.Nat.{add-zero}
-use lib.ListN.{length, get_or}
+use lib.ListN.{length}
 use lib.Seq.{sets}
 use Rattle.wire.specs.Bits.{bit}
 use Rattle.wire.specs.Internal.Places.{word_bits}
 use Rattle.settings.specs.Alarm.{ack_required}
-use Rattle.layout.specs.Internal.Words.{lower_of, alarm_in}
+use Rattle.layout.specs.Internal.Words.{alarm_in}
 use Rattle.layout.specs.Internal.Block.{alarm_at}
 use Rattle.event.specs.Event.{log_bytes}
 use Rattle.state.specs.Internal.State.{starts_of, state_in, state_at}

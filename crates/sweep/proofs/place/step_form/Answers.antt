@@ -1,5 +1,4 @@
 -- `sweep::place::step_form` meets its contract: by the form, the part's size and the step. Assumes nothing.
-use borrow.Author.Rules.{rules}
 use native.Mathlib.Omega.{arith}
 use Rattle.layout.specs.Internal.Words.{alarm_in}
 use Rattle.sweep.specs.Internal.Step.{step_kind}

@@ -1,5 +1,4 @@
 -- `wire::bits::spread6` meets its contract: six bits, each with its weight. Assumes nothing.
-use borrow.Author.Rules.{rules}
 use native.Mathlib.Omega.{arith}
 use Rattle.wire.specs.Internal.Words.{word_of, spread}
 use Rattle.wire.proofs.bits.spread6.Goals as goal

@@ -1,5 +1,4 @@
 -- `wire::bits::word3` meets its contract: three bits, each with its weight. Assumes nothing.
-use borrow.Author.Rules.{rules}
 use native.Mathlib.Omega.{arith}
 use Rattle.wire.specs.Internal.Words.{word_of}
 use Rattle.wire.proofs.bits.word3.Goals as goal

@@ -1,5 +1,4 @@
 -- `wire::bits::word6` meets its contract: three bits, and three above them. Assumes nothing.
-use borrow.Author.Rules.{rules}
 use native.Mathlib.Omega.{arith}
 use Rattle.wire.specs.Internal.Words.{word_of}
 use Rattle.wire.proofs.bits.word6.Goals as goal

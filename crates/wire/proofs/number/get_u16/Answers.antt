@@ -1,5 +1,4 @@
 -- `wire::number::get_u16` meets its contract: two bytes, the lower first. Assumes nothing.
-use borrow.Author.Rules.{rules}
 use native.Mathlib.Omega.{arith}
 use Rattle.wire.proofs.Laws.{number-two}
 use Rattle.wire.proofs.number.get_u16.Goals as goal

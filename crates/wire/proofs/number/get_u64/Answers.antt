@@ -1,5 +1,4 @@
 -- `wire::number::get_u64` meets its contract: two halves, the lower first. Assumes nothing.
-use borrow.Author.Rules.{rules}
 use native.Mathlib.Omega.{arith}
 use Rattle.wire.proofs.Laws.{number-add}
 use Rattle.wire.proofs.number.get_u64.Goals as goal

@@ -1,5 +1,4 @@
 -- `wire::number::has` meets its contract: a difference takes the place of a sum that could wrap. Assumes nothing.
-use borrow.Author.Rules.{rules}
 use borrow.Author.Tests.{lt-leb}
 use mathlib.Core.Path.{sym}
 use Prim.Native.Nat.{◌+◌, ◌-◌}

@@ -1,5 +1,4 @@
 -- `wire::number::put_u16` meets its contract: two stores, one after the other. Assumes nothing.
-use borrow.Author.Rules.{rules}
 use Prim.Native.Nat.{◌/◌, ◌%◌}
 use mathlib.Core.Path.{◌≡◌}
 use native.Mathlib.Omega.{arith}

@@ -1,5 +1,4 @@
 -- `wire::number::put_u32` meets its contract: two halves, one after the other. Assumes nothing.
-use borrow.Author.Rules.{rules}
 use Rattle.wire.proofs.Laws.{sets-halves}
 use Rattle.wire.proofs.number.put_u32.Goals as goal
 

@@ -1,5 +1,4 @@
 -- `wire::number::put_u64` meets its contract: two halves, one after the other. Assumes nothing.
-use borrow.Author.Rules.{rules}
 use Rattle.wire.proofs.Laws.{sets-halves}
 use Rattle.wire.proofs.number.put_u64.Goals as goal
 

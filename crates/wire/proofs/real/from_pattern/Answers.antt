@@ -1,6 +1,5 @@
 -- `wire::real::from_pattern` meets its contract: a pattern whose part below the sign is at most an infinity's is no NaN's,
 -- and any other is, as 0 / 0 is. Assumes nothing.
-use borrow.Author.Rules.{rules}
 use borrow.Author.Tests.{le-ltb, lt-ltb}
 use mathlib.Core.Path.{sym, ◌∙◌}
 use lib.Ieee.{binary32, div, of_bits}

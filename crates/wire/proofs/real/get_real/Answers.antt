@@ -1,5 +1,4 @@
 -- `wire::real::get_real` meets its contract: the pattern at the offset. Assumes nothing.
-use borrow.Author.Rules.{rules}
 use Rattle.wire.proofs.real.get_real.Goals as goal
 
 pub returns : goal.returns

@@ -1,5 +1,4 @@
 -- `wire::real::to_pattern` meets its contract: a NaN alone differs from itself. Assumes nothing.
-use borrow.Author.Rules.{rules}
 use mathlib.Core.Path.{sym, ap}
 use lib.Ieee.{binary32, to_bits}
 use Rattle.wire.proofs.Reals.{equals_itself, differs}
