@@ -136,7 +136,7 @@ fn put_records(
     words: &[u64],
 ) -> usize
     requires end_le_all_most { (end ≤ all_most) × (length words.now ≡ settings_size) }
-    requires words_in_bounds { start + length (records_bytes form (slice first end (read_as form words.now))) ≤ length out.old }
+    requires room { start + length (records_bytes form (slice first end (read_as form words.now))) ≤ length out.old }
     ensures value { result ≡ start + length (records_bytes form (slice first end (read_as form words.now))) }
     ensures out_after { out.new ≡ sets out.old start (records_bytes form (slice first end (read_as form words.now))) }
 {
@@ -158,8 +158,8 @@ fn put_section(
     count: usize,
     words: &[u64],
 ) -> usize
-    requires first_bound { (first ≤ 12) × (count ≤ 12) × (length words.now ≡ settings_size) }
-    requires words_in_bounds { at + length (section_bytes form first count (read_as form words.now)) ≤ length out.old }
+    requires sizes { (first ≤ 12) × (count ≤ 12) × (length words.now ≡ settings_size) }
+    requires room { at + length (section_bytes form first count (read_as form words.now)) ≤ length out.old }
     ensures value { result ≡ at + length (section_bytes form first count (read_as form words.now)) }
     ensures out_after { out.new ≡ sets out.old at (section_bytes form first count (read_as form words.now)) }
 {

@@ -75,7 +75,7 @@ pub fn put_settings(words: &mut [u64], settings: Settings)
     requires { length words.old ≡ settings_size }
     ensures words_after { words.new ≡ settings_words settings }
     ensures says { Says settings.alarms all_most words.new }
-    ensures words_after_2 { (get_or words.new 0 0 ≡ layout_word) × (counts_in words.new ≡ settings.counts) }
+    ensures head { (get_or words.new 0 0 ≡ layout_word) × (counts_in words.new ≡ settings.counts) }
 {
     let counts = settings.counts;
     let alarms = settings.alarms;

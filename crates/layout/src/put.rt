@@ -22,7 +22,7 @@ fn put_four(words: &mut [u64], at: usize, a: u64, b: u64, c: u64, d: u64)
 fn put_digital(words: &mut [u64], at: usize, flags: u8, duration: u32, severity: u32)
     requires { at + 8 ≤ length words.old }
     ensures words_after { words.new ≡ sets words.old at (digital_words flags duration severity) }
-    ensures at_after { alarm_in Form.Digital words.new at ≡ digital_of flags duration severity }
+    ensures read_back { alarm_in Form.Digital words.new at ≡ digital_of flags duration severity }
 {
     put_four(words, at, byte_pair(flags, duration), 0, 0, 0);
     put_four(words, at + 4, 0, pair(severity, 0), 0, 0);
@@ -39,7 +39,7 @@ fn put_analog(
 )
     requires { at + 8 ≤ length words.old }
     ensures words_after { words.new ≡ sets words.old at (analog_words flags duration g s period) }
-    ensures at_after { alarm_in Form.Analog words.new at ≡ analog_of flags duration g s period }
+    ensures read_back { alarm_in Form.Analog words.new at ≡ analog_of flags duration g s period }
 {
     let first = byte_pair(flags, duration);
     let highs = real_pair(g.hh, g.h);
@@ -61,7 +61,7 @@ fn put_analog(
 pub fn put_alarm(words: &mut [u64], at: usize, alarm: Alarm)
     requires { at + 8 ≤ length words.old }
     ensures words_after { words.new ≡ sets words.old at (alarm_words alarm) }
-    ensures at_after { alarm_in (form_of alarm.kind) words.new at ≡ alarm }
+    ensures read_back { alarm_in (form_of alarm.kind) words.new at ≡ alarm }
 {
     let flags = alarm.flags;
     let duration = alarm.duration;

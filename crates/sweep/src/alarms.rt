@@ -30,10 +30,15 @@ fn scan_form(
     count: usize,
     time: u64,
 ) -> usize
-    requires count_bound { (first + count ≤ all_most) × (length settings.now ≡ settings_size) × (length states.old ≡ states_size) × (length marks.old ≡ marks_size) }
-    requires time_value { (time ≡ time_of bytes.now) × (begin ≡ offset_of (counts_in settings.now) first) × (begin + entry_size form * count ≤ length bytes.now) }
+    requires sizes { (first + count ≤ all_most) ×
+        (length settings.now ≡ settings_size) ×
+        (length states.old ≡ states_size) ×
+        (length marks.old ≡ marks_size) }
+    requires parts { (time ≡ time_of bytes.now) ×
+        (begin ≡ offset_of (counts_in settings.now) first) ×
+        (begin + entry_size form * count ≤ length bytes.now) }
     requires have_form { HaveForm (counts_in settings.now) first count form }
-    requires count_in_bounds { start + length (log_from (words_in settings.now states.old marks.old) bytes.now first count) ≤ length out.old }
+    requires room { start + length (log_from (words_in settings.now states.old marks.old) bytes.now first count) ≤ length out.old }
     ensures value { result ≡ start + length
         (log_from (words_in settings.now states.old marks.old) bytes.now first count) }
     ensures states_after { states.new ≡ stepped_from (words_in settings.now states.old marks.old)
@@ -76,7 +81,7 @@ pub fn scan_alarms(
     counts: Counts,
 ) -> usize
     requires ready { Ready (words_in settings.now states.old marks.old) bytes.now counts }
-    requires counts_in_bounds { most_bytes counts ≤ length out.old }
+    requires room { most_bytes counts ≤ length out.old }
     ensures value { result ≡ length (log_after (words_in settings.now states.old marks.old) bytes.now) }
     ensures states_after { states.new ≡ (words_after (words_in settings.now states.old marks.old)
         bytes.now).states }

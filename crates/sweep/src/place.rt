@@ -61,8 +61,11 @@ fn log_place(
     events: u32,
     time: u64,
 ) -> usize
-    requires place_lt_all_most { (place < all_most) × (length settings.now ≡ settings_size) × (length states.now ≡ states_size) × (length marks.old ≡ marks_size) }
-    requires time_in_bounds { used + length (state_log form settings.now states.now place events time) ≤ length out.old }
+    requires sizes { (place < all_most) ×
+        (length settings.now ≡ settings_size) ×
+        (length states.now ≡ states_size) ×
+        (length marks.old ≡ marks_size) }
+    requires room { used + length (state_log form settings.now states.now place events time) ≤ length out.old }
     ensures value { result ≡ used + length (state_log form settings.now states.now place events time) }
     ensures marks_after { marks.new ≡ state_marks form settings.now states.now place events time marks.old }
     ensures out_after { out.new ≡ sets out.old used (state_log form settings.now states.now place events time) }
@@ -109,8 +112,11 @@ pub fn step_place(
     place: usize,
     time: u64,
 ) -> usize
-    requires place_lt_all_most { (place < all_most) × (length settings.now ≡ settings_size) × (length states.old ≡ states_size) × (length marks.old ≡ marks_size) }
-    requires form_in_bounds { (at + entry_size form ≤ length bytes.now) ×
+    requires sizes { (place < all_most) ×
+        (length settings.now ≡ settings_size) ×
+        (length states.old ≡ states_size) ×
+        (length marks.old ≡ marks_size) }
+    requires part { (at + entry_size form ≤ length bytes.now) ×
         (used + length (place_log form settings.now states.old bytes.now at place time) ≤ length out.old) }
     ensures value { result ≡ used + length (place_log form settings.now states.old bytes.now at place time) }
     ensures states_after { states.new ≡ place_states form settings.now states.old bytes.now at place time }

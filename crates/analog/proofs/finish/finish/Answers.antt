@@ -36,7 +36,8 @@ returns c =
     let begun =
     c.begin_all.ensures ∙ ap (λ (f : ℕ). keep_starts (all_begin f on a.met) a.time (a.at + 3) ws) low in
     let kept =
-    c.pair.ensures.0 ∙ ap (λ (f : ℕ). pair_of f a.word) (c.flags_after.ensures ∙ ap (flags_after a.modes a.met) six) in record {
+    c.pair.ensures.0 ∙ ap (λ (f : ℕ). pair_of f a.word) (c.flags_after.ensures ∙ ap (flags_after a.modes a.met) six) in
+    record {
       value = ap (λ (s : Cells). a.modes / 8 + condition_unit * s.events) six;
       states_after = ap₂ (λ (l : List ℕ) (v : ℕ). set l a.at v) begun kept;
     }

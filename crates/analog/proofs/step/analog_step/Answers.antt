@@ -128,7 +128,8 @@ returns c =
     in
     let events = events-are a ws g.at x g.word g.time m met asked low frees lasts need f h l in
     let flags = flags-are a ws g.at x g.word g.time m met asked low frees lasts need f h l in
-    let done = c.finish.ensures in record {
+    let done = c.finish.ensures in
+    record {
       value = done.value ∙ events;
       states_after = analog-done a ws g.at x g.word g.time e met (ap (λ (v : ℕ). pair_of v g.word) flags) stored f done.states_after;
     }

@@ -82,7 +82,8 @@ returns c =
     in
     let flags = digital-flags a s x g.word g.time m outcome in
     let events = digital-events a s x g.word g.time m outcome in
-    let first = c.pair-kept.ensures.0 ∙ ap (λ (f : ℕ). pair_of f g.word) flags in record {
+    let first = c.pair-kept.ensures.0 ∙ ap (λ (f : ℕ). pair_of f g.word) flags in
+    record {
       value = events;
       states_after = c.keep.ensures ∙ digital-done ws g.at (digital_after a x g.word g.time (look_digital s)) refl
           (λ i. cond ((not (disabled i) && met' i) && not (bit (low i) (condition_bit 0 2))) g.time s.hh) first;

@@ -17,7 +17,8 @@ put_record-requires c =
 pub returns-then-word-eq1 : goal.returns-then-word-eq1
 returns-then-word-eq1 c =
     let a = c.args in
-    let e = bit-set a.time a.head a.word c.if-word-eq1.true in record {
+    let e = bit-set a.time a.head a.word c.if-word-eq1.true in
+    record {
       value = ap (λ (n : ℕ). a.at + n) (sym (ap length e ∙ length-record a.time a.head));
       out_after = c.put_record.ensures ∙ ap (sets a.out.now a.at) (sym e);
     }

@@ -51,7 +51,8 @@ returns c =
     let q = c.put_three-third.ensures in
     let r = c.put_three.ensures in
     let n = nine-length a.time h.result a.word in
-    let e = ap (λ (x : ℕ). records_of a.time first_condition x a.word) h.ensures.value in record {
+    let e = ap (λ (x : ℕ). records_of a.time first_condition x a.word) h.ensures.value in
+    record {
       value = omega (arith, ap length e);
       out_after = nine-stores a.time a.out.now a.at h.result a.word p.value p.out_after q.value q.out_after r.out_after ∙ ap (sets a.out.now a.at) e;
     }

@@ -11,8 +11,10 @@ abbrev pub invariant-loop-place : goal.invariant-loop-place
 invariant-loop-place l =
     (l.end ≤ length (read_as l.form l.words))
     × (length l.out ≡ length l.initial.out)
-    × (l.at + length (records_bytes l.form (slice l.place l.end (read_as l.form l.words))) ≡ l.start + length (records_bytes l.form (slice l.first l.end (read_as l.form l.words))))
-    × (sets l.out l.at (records_bytes l.form (slice l.place l.end (read_as l.form l.words))) ≡ sets l.initial.out l.start (records_bytes l.form (slice l.first l.end (read_as l.form l.words))))
+    × (l.at + length (records_bytes l.form (slice l.place l.end (read_as l.form l.words)))
+    ≡ l.start + length (records_bytes l.form (slice l.first l.end (read_as l.form l.words))))
+    × (sets l.out l.at (records_bytes l.form (slice l.place l.end (read_as l.form l.words)))
+    ≡ sets l.initial.out l.start (records_bytes l.form (slice l.first l.end (read_as l.form l.words))))
 
 abbrev pub decreases-loop-place : goal.decreases-loop-place
 decreases-loop-place l = l.end - l.place

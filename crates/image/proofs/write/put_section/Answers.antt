@@ -15,7 +15,11 @@ put_u8-requires c =
 pub put_records-requires : goal.put_records-requires
 unfolding section_bytes
 put_records-requires c =
-    let a = c.args in record { end_le_all_most = omega (arith, section-length a.form a.first a.count (read_as a.form a.words.now)); words_in_bounds = omega (arith, section-length a.form a.first a.count (read_as a.form a.words.now)) }
+    let a = c.args in
+    record {
+      end_le_all_most = omega (arith, section-length a.form a.first a.count (read_as a.form a.words.now));
+      room = omega (arith, section-length a.form a.first a.count (read_as a.form a.words.now));
+    }
 
 pub returns : goal.returns
 unfolding section_bytes

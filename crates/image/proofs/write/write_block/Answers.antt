@@ -25,7 +25,11 @@ put_section-next-requires c =
     let counts = c.counts_in-counts.result in
     let ws = c.args.words.now in
     let h = c.has_room in
-    let r = room counts _ (sym h.ensures ∙ c.if-not-has_room.false) in record { first_bound = omega (arith, section-room Digital 0 counts.digital (read_as Digital ws), r.most, r.image); words_in_bounds = omega (arith, section-room Digital 0 counts.digital (read_as Digital ws), r.most, r.image) }
+    let r = room counts _ (sym h.ensures ∙ c.if-not-has_room.false) in
+    record {
+      sizes = omega (arith, section-room Digital 0 counts.digital (read_as Digital ws), r.most, r.image);
+      room = omega (arith, section-room Digital 0 counts.digital (read_as Digital ws), r.most, r.image);
+    }
 
 pub put_section-length-requires : goal.put_section-length-requires
 put_section-length-requires c =
@@ -34,7 +38,8 @@ put_section-length-requires c =
     let h = c.has_room in
     let r = room counts _ (sym h.ensures ∙ c.if-not-has_room.false) in
     let first = section-room Digital 0 counts.digital (read_as Digital ws) in
-    let second = section-room Analog counts.digital counts.analog (read_as Analog ws) in record { first_bound = omega (arith, r.most, r.image); words_in_bounds = omega (arith, r.most, r.image) }
+    let second = section-room Analog counts.digital counts.analog (read_as Analog ws) in
+    record { sizes = omega (arith, r.most, r.image); room = omega (arith, r.most, r.image) }
 
 pub returns : goal.returns
 unfolding written_of image_buffer settings_in

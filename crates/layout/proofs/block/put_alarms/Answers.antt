@@ -21,7 +21,7 @@ loop-place-preserved c =
       l.invariant.1,
       p.auto.words ∙ l.invariant.2,
       alarms-next a.alarms l.words l.place (search rules) p.ensures.words_after ∙ l.invariant.3,
-      said-next a.alarms l.words l.place _ l.invariant.4 p.ensures.words_after p.ensures.at_after,
+      said-next a.alarms l.words l.place _ l.invariant.4 p.ensures.words_after p.ensures.read_back,
     )
 
 pub returns : goal.returns

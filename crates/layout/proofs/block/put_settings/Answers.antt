@@ -14,5 +14,5 @@ returns c =
     record {
       words_after = e;
       says = p.says;
-      words_after_2 = block-head s e;
+      head = block-head s e;
     }

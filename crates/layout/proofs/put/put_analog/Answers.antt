@@ -14,4 +14,4 @@ returns c =
     c.pair-rate.ensures
     c.pair.ensures c.pair-2.ensures c.pair-3.ensures
     c.put_four.ensures c.put_four-2.ensures in
-    record { words_after = both.0; at_after = both.1 }
+    record { words_after = both.0; read_back = both.1 }

@@ -7,4 +7,4 @@ returns c =
     let both = digital-put c.args.words.now c.args.at c.requires c.byte_pair.ensures
     c.pair.ensures c.put_four.ensures
     c.put_four-2.ensures in
-    record { words_after = both.0; at_after = both.1 }
+    record { words_after = both.0; read_back = both.1 }

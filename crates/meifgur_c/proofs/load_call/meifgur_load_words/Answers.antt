@@ -10,7 +10,13 @@ use Rattle.meifgur_c.proofs.load_call.meifgur_load_words.Goals as goal
 pub returns-then-answer-lt-LOAD_ANSWER : goal.returns-then-answer-lt-LOAD_ANSWER
 returns-then-answer-lt-LOAD_ANSWER c =
     let short = lt-ltb (length c.args.answer.now) 4 c.if-answer-lt-LOAD_ANSWER.true in
-    record { value = rw short refl; settings_after = rw short refl; states_after = rw short refl; marks_after = rw short refl; answer_after = rw short refl }
+    record {
+      value = rw short refl;
+      settings_after = rw short refl;
+      states_after = rw short refl;
+      marks_after = rw short refl;
+      answer_after = rw short refl;
+    }
 
 pub returns : goal.returns
 returns c =

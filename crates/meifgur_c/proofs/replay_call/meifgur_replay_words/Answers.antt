@@ -10,7 +10,13 @@ use Rattle.meifgur_c.proofs.replay_call.meifgur_replay_words.Goals as goal
 pub returns-then-answer-lt-REPLAY_ANSWER : goal.returns-then-answer-lt-REPLAY_ANSWER
 returns-then-answer-lt-REPLAY_ANSWER c =
     let short = lt-ltb (length c.args.answer.now) 5 c.if-answer-lt-REPLAY_ANSWER.true in
-    record { value = rw short refl; states_after = rw short refl; marks_after = rw short refl; events_after = rw short refl; answer_after = rw short refl }
+    record {
+      value = rw short refl;
+      states_after = rw short refl;
+      marks_after = rw short refl;
+      events_after = rw short refl;
+      answer_after = rw short refl;
+    }
 
 pub returns : goal.returns
 returns c =

@@ -10,7 +10,13 @@ use Rattle.meifgur_c.proofs.scan_call.meifgur_scan_words.Goals as goal
 pub returns-then-answer-lt-SCAN_ANSWER : goal.returns-then-answer-lt-SCAN_ANSWER
 returns-then-answer-lt-SCAN_ANSWER c =
     let short = lt-ltb (length c.args.answer.now) 3 c.if-answer-lt-SCAN_ANSWER.true in
-    record { value = rw short refl; states_after = rw short refl; marks_after = rw short refl; events_after = rw short refl; answer_after = rw short refl }
+    record {
+      value = rw short refl;
+      states_after = rw short refl;
+      marks_after = rw short refl;
+      events_after = rw short refl;
+      answer_after = rw short refl;
+    }
 
 pub returns : goal.returns
 returns c =

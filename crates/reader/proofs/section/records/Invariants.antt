@@ -8,7 +8,8 @@ use Rattle.reader.proofs.section.records.Given as goal
 abbrev pub invariant-loop-place : goal.invariant-loop-place
 invariant-loop-place l =
     (l.place ≤ l.end)
-    × (records_from l.form l.image (l.end - l.first) (l.end - l.place) l.place l.next l.alarms ≡ records_from l.form l.image (l.end - l.first) (l.end - l.first) l.first l.at l.initial.alarms)
+    × (records_from l.form l.image (l.end - l.first) (l.end - l.place) l.place l.next l.alarms
+    ≡ records_from l.form l.image (l.end - l.first) (l.end - l.first) l.first l.at l.initial.alarms)
 
 abbrev pub decreases-loop-place : goal.decreases-loop-place
 decreases-loop-place l = l.end - l.place

@@ -27,7 +27,8 @@ returns-in-Accepted c =
     let fits : Accepted ≡ fit_of w =
     sym told ∙ c.fit-reply.ensures in
     let e = c.run-done.ensures in
-    let words = words_are w bytes out fits in record {
+    let words = words_are w bytes out fits in
+    record {
       value = c.with_reply.ensures ∙ (λ i. replied (told i) (e.value i)) ∙ reply-is w bytes out fits;
       states_after = e.states_after ∙ ap (λ (v : Words). v.states) words;
       marks_after = e.marks_after ∙ ap (λ (v : Words). v.marks) words;
@@ -42,7 +43,8 @@ returns-in-Refused c =
     let w : Words = words_in a.settings.now a.states.now a.marks.now in
     let told = c.in-Refused.is in
     let unfit = sym told ∙ c.fit-reply.ensures in
-    let words = words_are w bytes out unfit in record {
+    let words = words_are w bytes out unfit in
+    record {
       value = c.with_reply-in-Refused.ensures ∙ (λ i. replied (told i) (c.none_yet.ensures i)) ∙ reply-is w bytes out unfit;
       states_after = ap (λ (v : Words). v.states) words;
       marks_after = ap (λ (v : Words). v.marks) words;

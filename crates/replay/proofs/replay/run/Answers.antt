@@ -17,7 +17,7 @@ loop-at-init c =
 pub overflow_mul-used : goal.overflow_mul-used
 overflow_mul-used c =
     let g = c.loop-at.invariant in
-    omega (arith, has_room g, buffer-kept g, c.well_formed.1.1.1.1.0.0)
+    omega (arith, has_room g, buffer-kept g)
 
 pub slice_bounds-left-count : goal.slice_bounds-left-count
 slice_bounds-left-count c = has_room c.loop-at.invariant
@@ -32,7 +32,7 @@ count_answer-done-requires c =
     let few =
     few-records l.invariant c.loop-at-test.true in
     let fits = answer-fits p l.index _ c.scan-answer.ensures.value (has_room l.invariant) in
-    (few-refused l.invariant, omega (arith, few, c.well_formed.1.1.1.0.0), omega (arith, fits, buffer-kept l.invariant, c.well_formed.1.1.1.1.0.0))
+    (few-refused l.invariant, omega (arith, few), omega (arith, fits, buffer-kept l.invariant))
 
 pub loop-at-smaller : goal.loop-at-smaller
 loop-at-smaller c =
@@ -54,7 +54,8 @@ loop-at-preserved c =
 
 pub returns : goal.returns
 returns c =
-    let e = going_end c.loop-at.invariant c.loop-at-test.false in record {
+    let e = going_end c.loop-at.invariant c.loop-at-test.false in
+    record {
       value = ap (λ (p : Progress). p.tally) e;
       states_after = ap (λ (p : Progress). p.words.states) e;
       marks_after = ap (λ (p : Progress). p.words.marks) e;

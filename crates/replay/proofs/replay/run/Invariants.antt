@@ -3,12 +3,14 @@
 use Prim.Native.Nat.{◌-◌}
 use lib.ListN.{length}
 use Rattle.bank.specs.Internal.Words.{words_in}
+use Rattle.replay.specs.Replay.{Progress}
 use Rattle.replay.proofs.Runs.{Going}
 use Rattle.replay.proofs.replay.run.Given as goal
 
 abbrev pub invariant-loop-at : goal.invariant-loop-at
 invariant-loop-at l =
-    Going (words_in l.settings l.initial.states l.initial.marks) l.bytes l.initial.out l.size (record { words = words_in l.settings l.states l.marks; tally = l.done; buffer = l.out }) l.index l.at
+    let now : Progress = record { words = words_in l.settings l.states l.marks; tally = l.done; buffer = l.out } in
+    Going (words_in l.settings l.initial.states l.initial.marks) l.bytes l.initial.out l.size now l.index l.at
 
 abbrev pub decreases-loop-at : goal.decreases-loop-at
 decreases-loop-at l = length l.bytes - l.at

@@ -16,8 +16,8 @@ pub report_at-requires : goal.report_at-requires
 report_at-requires c =
     let t = there-says _ _ (rw c.counts_in.ensures at (sym c.is_there.ensures ∙ c.if-is_there.true)) in
     record {
-      place_bound = (omega arith, omega arith);
-      settings_len = search rules;
+      there = (omega arith, omega arith);
+      sizes = search rules;
     }
 
 pub returns-then-is_there : goal.returns-then-is_there

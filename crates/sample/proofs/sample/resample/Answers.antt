@@ -27,7 +27,8 @@ returns c =
     let rate =
     c.new_rate-rate.ensures
     ∙ rate-changes a.states.now a.at a.flags a.period a.time a.enabled a.x stays
-    c.if-enabled-stays.false in record {
+    c.if-enabled-stays.false in
+    record {
       value = rate;
       states_after = rw (
         c.choose.ensures,

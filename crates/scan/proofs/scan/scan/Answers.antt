@@ -32,7 +32,8 @@ returns-in-Accepted c =
     let fits : Accepted ≡ fit_of w = sym (sym c.fit-reply.ensures ∙ c.in-Accepted.is) in
     let e = c.scan_bank.ensures in
     let said : bank_answer w rec room ≡ answer_of w rec room = ap (λ (r : Reply). on_reply r (scan_of (bank_in w) rec room).answer (λ q. Refused q)) fits in
-    let after = ap (λ (r : Answer). if_accepted r (words_after w rec) w) said in record {
+    let after = ap (λ (r : Answer). if_accepted r (words_after w rec) w) said in
+    record {
       value = e.value ∙ said;
       states_after = e.states_after ∙ ap (λ (v : Words). v.states) after;
       marks_after = e.marks_after ∙ ap (λ (v : Words). v.marks) after;
@@ -48,7 +49,8 @@ returns-in-Refused c =
     let room = length a.out.now in
     let unfit = sym (sym c.fit-reply.ensures ∙ c.in-Refused.is) in
     let said = ap (λ (r : Reply). on_reply r (scan_of (bank_in w) rec room).answer (λ q. Refused q)) unfit in
-    let after = ap (λ (r : Answer). if_accepted r (words_after w rec) w) said in record {
+    let after = ap (λ (r : Answer). if_accepted r (words_after w rec) w) said in
+    record {
       value = said;
       states_after = ap (λ (v : Words). v.states) after;
       marks_after = ap (λ (v : Words). v.marks) after;

@@ -20,7 +20,8 @@ returns-in-Refused c =
     let rec : List ℕ = a.bytes.now in
     let w : Words = words_in a.settings.now a.states.now a.marks.now in
     let refused = check-is w rec c.counts_in-counts.ensures (sym c.check_record-reply.ensures ∙ c.in-Refused.is) in
-    let left = refused-words w rec refused (length a.out.now) in record {
+    let left = refused-words w rec refused (length a.out.now) in
+    record {
       value = refused-answer w rec refused (length a.out.now);
       states_after = ap (λ (v : Words). v.states) left;
       marks_after = ap (λ (v : Words). v.marks) left;
@@ -49,7 +50,8 @@ returns-then-out-most_bytes c =
     let room = length a.out.now in
     let accepted = check-is w rec c.counts_in-counts.ensures (sym c.check_record-reply.ensures ∙ c.in_default.is) in
     let e = c.scan_short.ensures in
-    let after = words_are w rec accepted room in record {
+    let after = words_are w rec accepted room in
+    record {
       value = e.value ∙ answer-is w rec accepted room;
       states_after = e.states_after ∙ ap (λ (v : Words). v.states) after;
       marks_after = e.marks_after ∙ ap (λ (v : Words). v.marks) after;
@@ -60,9 +62,10 @@ pub scan_alarms-used-requires : goal.scan_alarms-used-requires
 scan_alarms-used-requires c =
     let a = c.args in
     let w : Words = words_in a.settings.now a.states.now a.marks.now in
-    let accepted = sym c.check_record-reply.ensures ∙ c.in_default.is in record {
+    let accepted = sym c.check_record-reply.ensures ∙ c.in_default.is in
+    record {
       ready = ready_for w a.bytes.now c.counts_in-counts.ensures accepted c.requires;
-      counts_in_bounds = omega (arith, c.most_bytes.ensures, c.if-out-most_bytes.false);
+      room = omega (arith, c.most_bytes.ensures, c.if-out-most_bytes.false);
     }
 
 pub returns : goal.returns
@@ -77,7 +80,8 @@ returns c =
     let e = c.scan_alarms-used.ensures in
     let most = room_after w rec (ready_for w rec counts passed c.requires) in
     let h : length (log_after w rec) ≤ room = omega (arith, most, c.most_bytes.ensures, c.if-out-most_bytes.false) in
-    let after = roomy-words w rec room h ∙ words_are w rec accepted room in record {
+    let after = roomy-words w rec room h ∙ words_are w rec accepted room in
+    record {
       value = ap (λ (k : ℕ). Events (k / 16)) e.value ∙ roomy-answer w rec room h ∙ answer-is w rec accepted room;
       states_after = e.states_after ∙ ap (λ (v : Words). v.states) after;
       marks_after = e.marks_after ∙ ap (λ (v : Words). v.marks) after;

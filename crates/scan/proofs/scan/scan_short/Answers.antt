@@ -16,7 +16,8 @@ use Rattle.scan.proofs.scan.scan_short.Goals as goal
 
 pub scan_alarms-used-requires : goal.scan_alarms-used-requires
 scan_alarms-used-requires c =
-    let r = c.requires in record {
+    let r = c.requires in
+    record {
       ready = record {
         most = r.most;
         settings-long = r.settings-long;
@@ -25,7 +26,7 @@ scan_alarms-used-requires c =
         counts-are = r.counts-are;
         record-long = r.record-long;
       };
-      counts_in_bounds = omega (arith, r.most);
+      room = omega (arith, r.most);
     }
 
 pub returns-then-out-used : goal.returns-then-out-used
@@ -37,7 +38,8 @@ returns-then-out-used c =
     let used = c.scan_alarms-used.ensures.value ∙ ap (λ (v : Words). length (log_after v rec)) copied in
     let room = length a.out.now in
     let h : room < length (log_after w rec) = omega (arith, c.if-out-used.true, used) in
-    let left = short-words w rec room h in record {
+    let left = short-words w rec room h in
+    record {
       value = c.too_long.ensures ∙ short-answer w rec room h;
       states_after = ap (λ (v : Words). v.states) left;
       marks_after = ap (λ (v : Words). v.marks) left;
@@ -69,7 +71,8 @@ returns c =
     let front =
     ap (take c.scan_alarms-used.result) e.out_after
     ∙ front-taken _ _ e.value (omega (arith, ap length logged, most, c.requires.most))
-    ∙ logged in record {
+    ∙ logged in
+    record {
       value = ap (λ (k : ℕ). Events (k / 16)) used ∙ roomy-answer w rec room h;
       states_after = c.copy_words-3.ensures ∙ e.states_after
           ∙ ap (λ (v : Words). v.states) after;

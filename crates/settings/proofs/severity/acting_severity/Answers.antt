@@ -16,7 +16,9 @@ returns-then-s-gt2147483647 c = simp (ne_eqb _ _ c.if-s-eq0.false, lt-ltb _ _ c.
 -- src/severity.rt:7:1
 pub returns-then-s-gt1000 : goal.returns-then-s-gt1000
 unfolding acting
-returns-then-s-gt1000 c = simp (ne_eqb _ _ c.if-s-eq0.false, le-ltb _ _ c.if-s-gt2147483647.false, lt-ltb _ _ c.if-s-gt1000.true, le-leb _ _ c.if-s-gt2147483647.false)
+returns-then-s-gt1000 c =
+    let low = c.if-s-gt2147483647.false in
+    simp (ne_eqb _ _ c.if-s-eq0.false, le-ltb _ _ low, lt-ltb _ _ c.if-s-gt1000.true, le-leb _ _ low)
 
 -- src/severity.rt:7:1
 pub returns-else-s-gt1000 : goal.returns-else-s-gt1000

@@ -24,11 +24,12 @@ scan_form-half-requires c =
     let rec : List ℕ = a.bytes.now in
     let w : Words = words_in a.settings.now a.states.now a.marks.now in
     let d : a.counts.digital ≡ (counts_in a.settings.now).digital = ap (λ (k : Counts). k.digital) r.counts-are in
-    let most = room_most w rec a.counts r.counts-are in record {
-      count_bound = (omega (arith, r.most), r.settings-long, r.states-long, r.marks-long);
-      time_value = (c.get_u64-time.ensures, omega arith, omega (arith, r.record-long));
+    let most = room_most w rec a.counts r.counts-are in
+    record {
+      sizes = (omega (arith, r.most), r.settings-long, r.states-long, r.marks-long);
+      parts = (c.get_u64-time.ensures, omega arith, omega (arith, r.record-long));
       have_form = rw (← d) (digital-places a.counts);
-      count_in_bounds = omega (arith, log-grows w rec 0 a.counts.digital a.counts.analog, most, c.requires.counts_in_bounds);
+      room = omega (arith, log-grows w rec 0 a.counts.digital a.counts.analog, most, c.requires.room);
     }
 
 pub scan_form-used-requires : goal.scan_form-used-requires
@@ -43,16 +44,17 @@ scan_form-used-requires c =
     a.counts.analog) =
     λ i. length (log_from (words_in a.settings.now (e.states_after i) (e.marks_after i)) rec a.counts.digital a.counts.analog) in
     let most = room_most w rec a.counts r.counts-are in
-    let out = ap length e.out_after ∙ length-sets a.out.now 0 (log_from w rec 0 a.counts.digital) in record {
-      count_bound = (
+    let out = ap length e.out_after ∙ length-sets a.out.now 0 (log_from w rec 0 a.counts.digital) in
+    record {
+      sizes = (
         omega (arith, r.most),
         r.settings-long,
         ap length e.states_after ∙ stepped-length w rec 0 a.counts.digital ∙ r.states-long,
         ap length e.marks_after ∙ marked-length w rec 0 a.counts.digital ∙ r.marks-long,
       );
-      time_value = (c.get_u64-time.ensures, rw (← d) (omega arith), omega (arith, r.record-long));
+      parts = (c.get_u64-time.ensures, rw (← d) (omega arith), omega (arith, r.record-long));
       have_form = rw (← d) (analog-places a.counts);
-      count_in_bounds = omega (arith, log, e.value, length_whole w rec a.counts.digital a.counts.analog, most, c.requires.counts_in_bounds, out);
+      room = omega (arith, log, e.value, length_whole w rec a.counts.digital a.counts.analog, most, c.requires.room, out);
     }
 
 pub bounds-states-0 : goal.bounds-states-0
@@ -82,7 +84,8 @@ returns c =
     let states = f.states_after ∙ ap (λ (v : Words). stepped_from v rec d a.counts.analog) then ∙ states-whole w rec d a.counts.analog
     ∙ ap (stepped_from w rec 0) n in
     let marks = f.marks_after ∙ ap (λ (v : Words). marked_from v rec d a.counts.analog) then ∙ marks-whole w rec d a.counts.analog
-    ∙ ap (marked_from w rec 0) n in record {
+    ∙ ap (marked_from w rec 0) n in
+    record {
       value = f.value
           ∙ (λ i. (e.value ∙ used) i + length (log i))
           ∙ length_whole w rec d a.counts.analog

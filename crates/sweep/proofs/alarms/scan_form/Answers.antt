@@ -27,7 +27,7 @@ loop-n-init c =
     let rec : List ℕ = a.bytes.now in
     let w : Words = words_in a.settings.now a.states.now a.marks.now in (
       search rules,
-      c.requires.time_value.1 ∙ ap (offset_of (counts_in a.settings.now)) (sym (add-zero a.first)),
+      c.requires.parts.1 ∙ ap (offset_of (counts_in a.settings.now)) (sym (add-zero a.first)),
       sym (ap (λ (k : ℕ). a.begin + k) (mul-zero (entry_size a.form)) ∙ add-zero a.begin),
       sym (ap (λ (l : List ℕ). a.start + length l) (log-none w rec a.first) ∙ add-zero a.start),
       refl,
@@ -42,20 +42,24 @@ step_place-used-requires c =
     let rec : List ℕ = a.bytes.now in
     let w : Words = words_in a.settings.now a.states.now a.marks.now in
     let f = c.requires.have_form (a.first + l.n) (omega arith) (omega arith) in
-    let e = ap length (log-here w rec a.first l.n f l.invariant.1 c.requires.time_value.0 l.invariant.4) in
+    let e = ap length (log-here w rec a.first l.n f l.invariant.1 c.requires.parts.0 l.invariant.4) in
     let k : l.n + 1 + (a.count - (l.n + 1)) ≡ a.count = omega arith in
     let g = log-grows w rec a.first (l.n + 1) (a.count - (l.n + 1)) in
     let same = ap length l.invariant.6 ∙ length-sets a.out.now a.start (log_from w rec a.first l.n) in
     let total = ap (λ (n : ℕ). length (log_from w rec a.first n)) k in
     let next = length-next w rec a.first l.n in
-    let room = part-fits (entry_size a.form) l.n a.count (omega arith) in record {
-      place_lt_all_most = (
+    let room = part-fits (entry_size a.form) l.n a.count (omega arith) in
+    record {
+      sizes = (
         omega arith,
-        c.requires.count_bound.1,
-        ap length l.invariant.4 ∙ stepped-length w rec a.first l.n ∙ c.requires.count_bound.2,
-        ap length l.invariant.5 ∙ marked-length w rec a.first l.n ∙ c.requires.count_bound.3,
+        c.requires.sizes.1,
+        ap length l.invariant.4 ∙ stepped-length w rec a.first l.n ∙ c.requires.sizes.2,
+        ap length l.invariant.5 ∙ marked-length w rec a.first l.n ∙ c.requires.sizes.3,
       );
-      form_in_bounds = (omega (arith, room, l.invariant.2, c.requires.time_value.2), omega (arith, e, g, same, total, next, l.invariant.3, c.requires.count_in_bounds));
+      part = (
+        omega (arith, room, l.invariant.2, c.requires.parts.2),
+        omega (arith, e, g, same, total, next, l.invariant.3, c.requires.room),
+      );
     }
 
 pub part_size-at-requires : goal.part_size-at-requires
@@ -73,7 +77,7 @@ loop-n-preserved c =
     let w : Words = words_in a.settings.now a.states.now a.marks.now in
     let f = c.requires.have_form (a.first + l.n) (omega arith) (omega arith) in
     let size = c.part_size-at.ensures in
-    let t = c.requires.time_value.0 in
+    let t = c.requires.parts.0 in
     let e = ap length (log-here w rec a.first l.n f l.invariant.1 t l.invariant.4) in
     let place : a.first + l.n + 1 ≡ a.first + (l.n + 1) = omega arith in (
       omega arith,
@@ -92,7 +96,8 @@ returns c =
     let a = c.args in
     let rec : List ℕ = a.bytes.now in
     let w : Words = words_in a.settings.now a.states.now a.marks.now in
-    let n : l.n ≡ a.count = omega arith in record {
+    let n : l.n ≡ a.count = omega arith in
+    record {
       value = l.invariant.3 ∙ ap (λ (k : ℕ). a.start + length (log_from w rec a.first k)) n;
       states_after = l.invariant.4 ∙ ap (stepped_from w rec a.first) n;
       marks_after = l.invariant.5 ∙ ap (marked_from w rec a.first) n;

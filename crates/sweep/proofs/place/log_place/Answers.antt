@@ -30,7 +30,8 @@ returns-then-events-eq0 c =
     let state = state_in a.states.now (state_at a.place) in
     let none : events_of (a.place + 1) alarm.kind (bit state.flags 1) a.time word_bits 0 a.events ≡ [] =
     rw z (no-events (a.place + 1) alarm.kind (bit state.flags 1) a.time word_bits 0) in
-    let e = ap log_bytes none in record {
+    let e = ap log_bytes none in
+    record {
       value = sym (ap (λ (bs : List ℕ). a.used + length bs) e ∙ add-zero a.used);
       marks_after = sym (alarm-still (ack_required alarm.kind alarm.flags) (starts_of state) a.time (25 * a.place) a.marks.now z);
       out_after = sym (ap (sets a.out.now a.used) e);
@@ -39,7 +40,7 @@ returns-then-events-eq0 c =
 pub put_events-requires : goal.put_events-requires
 unfolding state_log state_in alarm_in
 put_events-requires c =
-    (search rules, rw c.lower-flags.ensures c.requires.time_in_bounds)
+    (search rules, rw c.lower-flags.ensures c.requires.room)
 
 pub returns : goal.returns
 unfolding state_log state_marks state_in alarm_in
@@ -50,7 +51,8 @@ returns c =
     let alarm = alarm_in a.form a.settings.now (alarm_at a.place) in
     let log : ℕ → List ℕ = λ v. log_bytes (events_of (a.place + 1) alarm.kind (bit v 1) a.time word_bits 0 a.events) in
     let required = c.required_in-required.ensures in
-    let starts = starts-in a.states.now (state_at a.place) in record {
+    let starts = starts-in a.states.now (state_at a.place) in
+    record {
       value = p.value ∙ ap (λ (v : ℕ). a.used + length (log v)) l;
       marks_after = c.mark_alarm.ensures
           ∙ (λ i. mark_alarm (required i) (starts i) a.events a.time (25 * a.place) a.marks.now);

@@ -12,11 +12,11 @@ pub log_place-requires : goal.log_place-requires
 log_place-requires c =
     let a = c.args in
     let e = c.step_form-events.ensures in
-    let p = c.requires.place_lt_all_most in
+    let p = c.requires.sizes in
     let log = log_back a.settings.now a.states.now a.bytes.now a.at a.place a.time a.form p.0 p.2 e.states_after e.value in
     record {
-      place_lt_all_most = search rules;
-      time_in_bounds = rw log c.requires.form_in_bounds.1;
+      sizes = search rules;
+      room = rw log c.requires.part.1;
     }
 
 pub returns : goal.returns
@@ -24,10 +24,11 @@ returns c =
     let a = c.args in
     let e = c.step_form-events.ensures in
     let l = c.log_place.ensures in
-    let p = c.requires.place_lt_all_most in
+    let p = c.requires.sizes in
     let log = log_back a.settings.now a.states.now a.bytes.now a.at a.place a.time a.form p.0 p.2 e.states_after e.value in
     let marks =
-    marks-back a.settings.now a.states.now a.bytes.now a.at a.place a.time a.form p.0 p.2 e.states_after e.value a.marks.now in record {
+    marks-back a.settings.now a.states.now a.bytes.now a.at a.place a.time a.form p.0 p.2 e.states_after e.value a.marks.now in
+    record {
       value = l.value ∙ ap (λ (bs : List ℕ). a.used + length bs) log;
       states_after = e.states_after;
       marks_after = l.marks_after ∙ marks;
