@@ -22,9 +22,10 @@ pub fn no_bank(block: usize) -> Reply
 
 // Looks at the three lengths and the layout word.
 pub fn fit(settings: &[u64], states: &[u64], marks: &[u64]) -> Reply
-    ensures { result ≡ fit_of (record { settings = settings.entry.now; states = states.now; marks = marks.now }) }
+    ensures { result ≡ fit_of (record { settings = settings.now; states = states.now; marks = marks.now }) }
 {
-    if !is_block(settings) {
+    let is_known = is_block(settings);
+    if !is_known {
         return no_bank(0);
     }
     if states.len() != STATES_WORDS {

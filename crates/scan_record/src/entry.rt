@@ -29,6 +29,9 @@ fn refuse(number: u32, place: usize) -> Entry
     Entry::Refused(Refusal { number, place })
 }
 
+// The highest byte that is a digital reading.
+const HIGHEST_INPUT: u8 = 1;
+
 // The bits that a command word of each form may set: 0 to 12 and 25, and 0 to 25 without 1 and 8.
 const DIGITAL_BITS: u32 = 0x0200_1FFF;
 
@@ -68,7 +71,7 @@ fn digital_entry(bytes: &[u8], at: usize, alarm: usize) -> Entry
 {
     let input = bytes[at];
     let word = get_u32(bytes, at + DIGITAL_WORD);
-    if 1 < input {
+    if HIGHEST_INPUT < input {
         return refuse(NOT_A_BIT, alarm);
     }
     if !is_command(word, Form::Digital) {

@@ -16,6 +16,11 @@ use settings::types::{Alarm, Form, Kind, Limits, Severities};
 use wire::number::{get_u32, has};
 use wire::real::get_real;
 
+// What a one counts behind the last flag of each form.
+const DIGITAL_FLAGS: u8 = 8;
+
+const ANALOG_FLAGS: u8 = 32;
+
 // An alarm's settings and the offset past its record, or the refusal.
 #[derive(Clone, Copy)]
 pub enum Record {
@@ -66,7 +71,7 @@ fn digital_record(image: &[u8], at: usize) -> Record
     let flags = image[at];
     let severity = get_u32(image, at + SEVERITY);
     let duration = get_u32(image, at + DIGITAL_DURATION);
-    if 8 <= flags {
+    if DIGITAL_FLAGS <= flags {
         return refuse(UNKNOWN_FLAG, at);
     }
     if 0x7FFF_FFFF < duration {
@@ -93,7 +98,7 @@ fn analog_record(image: &[u8], at: usize) -> Record
     let limits = limits_at(image, at);
     let period = get_u32(image, at + PERIOD);
     let duration = get_u32(image, at + ANALOG_DURATION);
-    if 32 <= flags {
+    if ANALOG_FLAGS <= flags {
         return refuse(UNKNOWN_FLAG, at);
     }
     if !numbers_in_range(limits, period, duration) {

@@ -11,10 +11,10 @@ pub const FAILED: usize = usize::MAX;
 
 // Tells standard error what failed, and why. Nothing is left to tell where that fails too.
 pub fn tell(rt: &impl Eprint, what: &[u8], error: io::Error) {
-    for byte in what {
-        let _ = rt.eprint(char::from(*byte));
-    }
-    let _ = eprintln!(rt; ": {error}");
+    let _ = match str::from_utf8(what) {
+        Ok(what) => eprintln!(rt; "{what}: {error}"),
+        Err(_) => eprintln!(rt; "{error}"),
+    };
 }
 
 // Writes what waits. Standard error has the reason of a failure.

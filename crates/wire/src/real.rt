@@ -8,10 +8,15 @@ ghost use Rattle.wire.specs.Internal.Words.{real_bytes};
 
 use crate::number::{get_u32, put_u32};
 
+// Bit patterns: the sign, and below it an infinity's; those above that are NaNs'.
+const SIGN: u32 = 0x8000_0000;
+
+const INFINITY: u32 = 0x7F80_0000;
+
 pub fn from_pattern(bits: u32) -> f32
     ensures { result ≡ of_bits binary32 bits }
 {
-    if bits % 0x8000_0000 <= 0x7F80_0000 {
+    if bits % SIGN <= INFINITY {
         f32::from_bits(bits)
     } else {
         0.0 / 0.0

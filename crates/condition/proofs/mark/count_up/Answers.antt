@@ -2,10 +2,8 @@
 use borrow.Author.Tests.{lt-ltb, le-ltb}
 use Rattle.condition.proofs.mark.count_up.Goals as goal
 
--- src/mark.rt:7:1
 pub returns-then-n-lt2147483647 : goal.returns-then-n-lt2147483647
 returns-then-n-lt2147483647 c = simp (lt-ltb _ _ c.if-n-lt2147483647.true)
 
--- src/mark.rt:7:1
 pub returns-else-n-lt2147483647 : goal.returns-else-n-lt2147483647
 returns-else-n-lt2147483647 c = simp (le-ltb _ _ c.if-n-lt2147483647.false)

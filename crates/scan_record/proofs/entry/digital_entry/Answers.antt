@@ -5,16 +5,16 @@ use mathlib.Core.Path.{◌∙◌}
 use borrow.Author.Tests.{le-leb, lt-leb}
 use Rattle.scan_record.proofs.entry.digital_entry.Goals as goal
 
-pub returns-then-input-gt1 : goal.returns-then-input-gt1
+pub returns-then-input-gt-HIGHEST_INPUT : goal.returns-then-input-gt-HIGHEST_INPUT
 unfolding entry_at checked
-returns-then-input-gt1 c = c.refuse.ensures ∙ simp (lt-leb _ _ c.if-input-gt1.true)
+returns-then-input-gt-HIGHEST_INPUT c = c.refuse.ensures ∙ simp (lt-leb _ _ c.if-input-gt-HIGHEST_INPUT.true)
 
 pub returns-then-not-is_command : goal.returns-then-not-is_command
 unfolding entry_at checked
 returns-then-not-is_command c =
     c.refuse-then-not-is_command.ensures
     ∙ simp (
-      le-leb _ _ c.if-input-gt1.false,
+      le-leb _ _ c.if-input-gt-HIGHEST_INPUT.false,
       ← c.get_u32-word.ensures,
       ← c.is_command.ensures,
       c.if-not-is_command.true,
@@ -24,7 +24,7 @@ pub returns : goal.returns
 unfolding entry_at checked
 returns c =
     simp (
-      le-leb _ _ c.if-input-gt1.false,
+      le-leb _ _ c.if-input-gt-HIGHEST_INPUT.false,
       ← c.get_u32-word.ensures,
       ← c.is_command.ensures,
       c.if-not-is_command.false,

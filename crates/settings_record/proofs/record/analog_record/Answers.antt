@@ -5,16 +5,16 @@ use Rattle.settings.specs.Refusals.{checked}
 use borrow.Author.Tests.{le-ltb, lt-ltb}
 use Rattle.settings_record.proofs.record.analog_record.Goals as goal
 
-pub returns-then-flags-ge32 : goal.returns-then-flags-ge32
+pub returns-then-flags-ge-ANALOG_FLAGS : goal.returns-then-flags-ge-ANALOG_FLAGS
 unfolding checked fields_at
-returns-then-flags-ge32 c = c.refuse.ensures ∙ simp (le-ltb _ _ c.if-flags-ge32.true)
+returns-then-flags-ge-ANALOG_FLAGS c = c.refuse.ensures ∙ simp (le-ltb _ _ c.if-flags-ge-ANALOG_FLAGS.true)
 
 pub returns-then-not-numbers_in_range : goal.returns-then-not-numbers_in_range
 unfolding checked fields_at
 returns-then-not-numbers_in_range c =
     c.refuse-then-not-numbers_in_range.ensures
     ∙ simp (
-      lt-ltb _ _ c.if-flags-ge32.false,
+      lt-ltb _ _ c.if-flags-ge-ANALOG_FLAGS.false,
       ← c.numbers_in_range.ensures,
       ← c.get_u32-duration.ensures,
       ← c.get_u32-period.ensures,
@@ -27,7 +27,7 @@ unfolding checked fields_at
 returns-then-not-levels_apart c =
     c.refuse-then-not-levels_apart.ensures
     ∙ simp (
-      lt-ltb _ _ c.if-flags-ge32.false,
+      lt-ltb _ _ c.if-flags-ge-ANALOG_FLAGS.false,
       ← c.numbers_in_range.ensures,
       ← c.get_u32-duration.ensures,
       ← c.get_u32-period.ensures,
@@ -41,7 +41,7 @@ pub returns : goal.returns
 unfolding checked fields_at
 returns c =
     simp (
-      lt-ltb _ _ c.if-flags-ge32.false,
+      lt-ltb _ _ c.if-flags-ge-ANALOG_FLAGS.false,
       ← c.numbers_in_range.ensures,
       ← c.get_u32-duration.ensures,
       ← c.get_u32-period.ensures,

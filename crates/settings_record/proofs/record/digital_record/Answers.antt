@@ -5,17 +5,17 @@ use Rattle.settings.specs.Refusals.{checked}
 use borrow.Author.Tests.{le-ltb, lt-ltb, le-leb, lt-leb}
 use Rattle.settings_record.proofs.record.digital_record.Goals as goal
 
-pub returns-then-flags-ge8 : goal.returns-then-flags-ge8
+pub returns-then-flags-ge-DIGITAL_FLAGS : goal.returns-then-flags-ge-DIGITAL_FLAGS
 unfolding checked fields_at
-returns-then-flags-ge8 c = c.refuse.ensures ∙ simp (le-ltb _ _ c.if-flags-ge8.true)
+returns-then-flags-ge-DIGITAL_FLAGS c = c.refuse.ensures ∙ simp (le-ltb _ _ c.if-flags-ge-DIGITAL_FLAGS.true)
 
 pub returns-then-duration-gt2147483647 : goal.returns-then-duration-gt2147483647
 unfolding checked fields_at
 returns-then-duration-gt2147483647 c =
     c.refuse-then-duration-gt2147483647.ensures
-    ∙ simp (lt-ltb _ _ c.if-flags-ge8.false, ← c.get_u32-duration.ensures, lt-leb _ _ c.if-duration-gt2147483647.true)
+    ∙ simp (lt-ltb _ _ c.if-flags-ge-DIGITAL_FLAGS.false, ← c.get_u32-duration.ensures, lt-leb _ _ c.if-duration-gt2147483647.true)
 
 pub returns : goal.returns
 unfolding checked fields_at
 returns c =
-    simp (lt-ltb _ _ c.if-flags-ge8.false, ← c.get_u32-duration.ensures, le-leb _ _ c.if-duration-gt2147483647.false, ← c.get_u32-severity.ensures)
+    simp (lt-ltb _ _ c.if-flags-ge-DIGITAL_FLAGS.false, ← c.get_u32-duration.ensures, le-leb _ _ c.if-duration-gt2147483647.false, ← c.get_u32-severity.ensures)

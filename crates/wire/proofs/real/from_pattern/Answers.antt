@@ -8,10 +8,10 @@ use Rattle.wire.proofs.Reals.{nan-only}
 use Rattle.wire.proofs.real.from_pattern.Goals as goal
 
 pub float_from_bits-result : goal.float_from_bits-result
-float_from_bits-result c = rw (nan_bits_above, le-ltb _ _ c.if-bits-le2139095040.true) tt
+float_from_bits-result c = rw (nan_bits_above, le-ltb _ _ c.if-bits-le-INFINITY.true) tt
 
-pub returns-else-bits-le2139095040 : goal.returns-else-bits-le2139095040
+pub returns-else-bits-le-INFINITY : goal.returns-else-bits-le-INFINITY
 unfolding div of_bits
-returns-else-bits-le2139095040 c =
+returns-else-bits-le-INFINITY c =
     let bits = c.args.bits in
-    sym (nan-only _ (sym (nan_bits_is binary32 bits) ∙ nan_bits_above binary32 bits ∙ lt-ltb _ _ c.if-bits-le2139095040.false))
+    sym (nan-only _ (sym (nan_bits_is binary32 bits) ∙ nan_bits_above binary32 bits ∙ lt-ltb _ _ c.if-bits-le-INFINITY.false))
