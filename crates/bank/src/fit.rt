@@ -24,8 +24,9 @@ pub fn no_bank(block: usize) -> Reply
 pub fn fit(settings: &[u64], states: &[u64], marks: &[u64]) -> Reply
     ensures { result ≡ fit_of (record { settings = settings.now; states = states.now; marks = marks.now }) }
 {
-    let is_known = is_block(settings);
-    if !is_known {
+    let known = is_block(settings);
+    let is_other = !known;
+    if is_other {
         return no_bank(0);
     }
     if states.len() != STATES_WORDS {

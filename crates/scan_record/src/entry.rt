@@ -86,7 +86,9 @@ fn analog_entry(bytes: &[u8], at: usize, alarm: usize) -> Entry
 {
     let pattern = get_u32(bytes, at);
     let word = get_u32(bytes, at + ANALOG_WORD);
-    if !is_bounded_pattern(pattern) {
+    let within = is_bounded_pattern(pattern);
+    let is_beyond = !within;
+    if is_beyond {
         return refuse(BAD_REAL, alarm);
     }
     if !is_command(word, Form::Analog) {

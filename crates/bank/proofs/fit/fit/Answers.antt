@@ -4,17 +4,17 @@ use mathlib.Core.Path.{◌∙◌}
 use Rattle.bank.specs.Internal.Words.{fit_of}
 use Rattle.bank.proofs.fit.fit.Goals as goal
 
-pub returns-then-not-is_known : goal.returns-then-not-is_known
+pub returns-then-is_other : goal.returns-then-is_other
 unfolding fit_of
-returns-then-not-is_known c = c.no_bank.ensures ∙ rw (← c.is_block-is_known.ensures, c.if-not-is_known.true)
+returns-then-is_other c = c.no_bank.ensures ∙ rw (← c.is_block-known.ensures, c.if-is_other.true)
 
 pub returns-then-states-ne-STATES_WORDS : goal.returns-then-states-ne-STATES_WORDS
 unfolding fit_of
 returns-then-states-ne-STATES_WORDS c =
     c.no_bank-then-states-ne-STATES_WORDS.ensures
     ∙ rw (
-      ← c.is_block-is_known.ensures,
-      c.if-not-is_known.false,
+      ← c.is_block-known.ensures,
+      c.if-is_other.false,
       ne_eqb _ _ c.if-states-ne-STATES_WORDS.true,
     )
 
@@ -23,8 +23,8 @@ unfolding fit_of
 returns-then-marks-ne-MARKS_WORDS c =
     c.no_bank-then-marks-ne-MARKS_WORDS.ensures
     ∙ rw (
-      ← c.is_block-is_known.ensures,
-      c.if-not-is_known.false,
+      ← c.is_block-known.ensures,
+      c.if-is_other.false,
       eq-eqb _ _ c.if-states-ne-STATES_WORDS.false,
       ne_eqb _ _ c.if-marks-ne-MARKS_WORDS.true,
     )
@@ -33,8 +33,8 @@ pub returns : goal.returns
 unfolding fit_of
 returns c =
     rw (
-      ← c.is_block-is_known.ensures,
-      c.if-not-is_known.false,
+      ← c.is_block-known.ensures,
+      c.if-is_other.false,
       eq-eqb _ _ c.if-states-ne-STATES_WORDS.false,
       eq-eqb _ _ c.if-marks-ne-MARKS_WORDS.false,
     )

@@ -4,11 +4,11 @@ use Rattle.scan_record.specs.Entry.{entry_at}
 use mathlib.Core.Path.{◌∙◌}
 use Rattle.scan_record.proofs.entry.analog_entry.Goals as goal
 
-pub returns-then-not-is_bounded_pattern : goal.returns-then-not-is_bounded_pattern
+pub returns-then-is_beyond : goal.returns-then-is_beyond
 unfolding entry_at checked
-returns-then-not-is_bounded_pattern c =
+returns-then-is_beyond c =
     c.refuse.ensures
-    ∙ simp (← c.get_u32-pattern.ensures, ← c.is_bounded_pattern.ensures, c.if-not-is_bounded_pattern.true)
+    ∙ simp (← c.get_u32-pattern.ensures, ← c.is_bounded_pattern-within.ensures, c.if-is_beyond.true)
 
 pub returns-then-not-is_command : goal.returns-then-not-is_command
 unfolding entry_at checked
@@ -16,8 +16,8 @@ returns-then-not-is_command c =
     c.refuse-then-not-is_command.ensures
     ∙ simp (
       ← c.get_u32-pattern.ensures,
-      ← c.is_bounded_pattern.ensures,
-      c.if-not-is_bounded_pattern.false,
+      ← c.is_bounded_pattern-within.ensures,
+      c.if-is_beyond.false,
       ← c.get_u32-word.ensures,
       ← c.is_command.ensures,
       c.if-not-is_command.true,
@@ -29,8 +29,8 @@ returns c =
     simp (
       c.from_pattern.ensures,
       ← c.get_u32-pattern.ensures,
-      ← c.is_bounded_pattern.ensures,
-      c.if-not-is_bounded_pattern.false,
+      ← c.is_bounded_pattern-within.ensures,
+      c.if-is_beyond.false,
       ← c.get_u32-word.ensures,
       ← c.is_command.ensures,
       c.if-not-is_command.false,
