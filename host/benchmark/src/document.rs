@@ -14,8 +14,9 @@ pub fn page(results: &Results) -> String {
         "Bound of {SCAN} / {QUICK} on each drive: {FULL_MOST} with {ALARMS} alarms, {SINGLE_MOST} with one."
     );
     let processor = processor().unwrap_or("a processor without a name".to_string());
+    let kit = kit().unwrap_or("a kit without a name".to_string());
     format!(
-        "# Speed\n\n{about}\n{bounds}\nMeasured on: {processor}.\n\n{CHART}\n\n{}",
+        "# Speed\n\n{about}\n{bounds}\nMeasured on: {processor}. Archive by: {kit}.\n\n{CHART}\n\n{}",
         all_tables(results)
     )
 }
@@ -55,6 +56,12 @@ pub fn all_tables(results: &Results) -> String {
 }
 
 /// The model's name, where the system says one.
+/// What the toolchain says that it is.
+fn kit() -> Option<String> {
+    let said = std::process::Command::new("rt").arg("version").output().ok()?;
+    Some(String::from_utf8(said.stdout).ok()?.trim().to_string())
+}
+
 fn processor() -> Option<String> {
     let text = fs::read_to_string("/proc/cpuinfo").ok()?;
     let line = text.lines().find(|line| line.starts_with("model name"))?;
