@@ -37,8 +37,9 @@ someone acknowledges. Storm: readings jump across all limits in each scan, every
 const CHART: &str = "![Bars and lines of the times in the tables below](speed.svg)";
 
 const THEN: &str = "\
-Then: the archive before it worked on lent words (commit c7a4cbf), in a run of its own. Its replay, and the plain rival then,
-went from the image to the reports; its by-value scan handed the whole bank over and took it back.
+Then: the archive before it worked on lent words (commit c7a4cbf, by an older kit), in a run of its own on another machine. Its
+replay, and the plain rival then, went from the image to the reports; its by-value scan handed the whole bank over and took it
+back.
 ";
 
 pub fn all_tables(results: &Results) -> String {
@@ -55,13 +56,16 @@ pub fn all_tables(results: &Results) -> String {
     )
 }
 
-/// The model's name, where the system says one.
 /// What the toolchain says that it is.
 fn kit() -> Option<String> {
-    let said = std::process::Command::new("rt").arg("version").output().ok()?;
+    let said = std::process::Command::new("rt")
+        .arg("version")
+        .output()
+        .ok()?;
     Some(String::from_utf8(said.stdout).ok()?.trim().to_string())
 }
 
+/// The model's name, where the system says one.
 fn processor() -> Option<String> {
     let text = fs::read_to_string("/proc/cpuinfo").ok()?;
     let line = text.lines().find(|line| line.starts_with("model name"))?;
