@@ -16,14 +16,13 @@ use Rattle.settings.specs.declared.types.Alarm.{Alarm}
 use Rattle.settings.specs.declared.types.Settings.{Settings}
 use Rattle.settings.specs.declared.types.Form.{Form}
 use Rattle.settings.specs.declared.types.Form.TheVariants.{Digital as DigitalForm, Analog as AnalogForm}
-use Rattle.settings.specs.declared.reply.Reply.TheVariants.{Accepted}
+use Rattle.std.proofs.Common.{Ok}
 use Rattle.settings_record.specs.Record.{word_place, size_of, severities_at, limits_at, fields_at, record_at}
-use Rattle.settings_record.specs.declared.record.Record.TheVariants.{Alarm as Recorded}
 use Rattle.settings_record.proofs.Laws.{was_read}
 use Rattle.layout.specs.Internal.Block.{placed, settings_in, settings_words}
 use Rattle.layout.proofs.Laws.{length-placed, placed_below}
 use Rattle.layout.proofs.Back.{Kept, digital-kept, Reals, analog-kept, block-is, settings-back}
-use Rattle.reader.specs.Read.{read_of}
+use Rattle.reader.specs.Read.{settings_of}
 use Rattle.reader.proofs.Filled.{settled}
 use Rattle.state.specs.Internal.Held.{fresh_state}
 use Rattle.state.specs.Internal.State.{State, state_in, state_at}
@@ -81,7 +80,7 @@ module _ (image : List ℕ) (b : T (are_bytes image)) where
       (omega arith) (reals at) (severity-lt at 0 (omega arith)) (severity-lt at 2 (omega arith)) (severity-lt at 4 (omega arith))
 
   -- an alarm that was read is said again by its words
-  each : (form : Form) (at : ℕ) (a : Alarm) (next : ℕ) → record_at form image at ≡ Recorded a next → Kept form a
+  each : (form : Form) (at : ℕ) (a : Alarm) (next : ℕ) → record_at form image at ≡ Ok (a, next) → Kept form a
   unfolding fields_at
   each DigitalForm at a next e =
       let r = was_read DigitalForm image at e in
@@ -90,20 +89,20 @@ module _ (image : List ℕ) (b : T (are_bytes image)) where
       let r = was_read AnalogForm image at e in
       subst (Kept AnalogForm) r.alarm (analog-alarm at r.whole (ltb-true _ 32 r.passed.0))
 
-  pub loaded-settings : settings_in (settings_words (read_of image).settings) ≡ (read_of image).settings
+  pub loaded-settings : settings_in (settings_words (settings_of image)) ≡ (settings_of image)
   loaded-settings =
       let s = settled image Kept each in
-      settings-back (read_of image).settings s.long (omega (arith, s.most)) s.read s.behind
+      settings-back (settings_of image) s.long (omega (arith, s.most)) s.read s.behind
 
   -- the words of a loaded bank stand for the bank of its image
-  pub loaded-bank : bank_in (loaded_words image) ≡ (load_of image).bank
+  pub loaded-bank : bank_in (loaded_words image) ≡ load_of image
   unfolding bank_in loaded_words load_of fresh_bank
   loaded-bank =
       ap₂ (λ (s : Settings) (states : List State). record { settings = s; time = 0; states = states; marks = replicate 900 0 }) loaded-settings states-fresh
 
 -- and are those of a bank
-pub loaded-fits : (image : List ℕ) → fit_of (loaded_words image) ≡ Accepted
+pub loaded-fits : (image : List ℕ) → fit_of (loaded_words image) ≡ Ok tt
 unfolding fit_of loaded_words
 loaded-fits image =
     let s = settled image (λ form a. Unit {0}) (λ form at a next e. tt) in
-    rw (block-is (read_of image).settings s.long)
+    rw (block-is (settings_of image) s.long)

@@ -10,8 +10,8 @@ use Rattle.layout.proofs.Laws.{placed_below}
 use Rattle.wire.proofs.Laws.{and-true}
 use Rattle.settings.specs.Alarm.{blank, blanks}
 use Rattle.layout.specs.Internal.Block.{no_bank}
-use Rattle.settings.specs.declared.reply.Refusal.{Refusal}
-use Rattle.settings.specs.declared.reply.Reply.TheVariants.{Accepted, Refused as RefusedBy}
+use Rattle.std.proofs.Common.{Ok, Err}
+use Rattle.settings.specs.declared.refusals.Refusal.{Refusal}
 use Rattle.layout.specs.Internal.Block.{layout_word, count_in, alarm_on, settings_in, is_block}
 use Rattle.state.specs.Internal.Held.{fresh_state}
 use Rattle.state.specs.Internal.State.{state_in, state_at}
@@ -42,14 +42,14 @@ pub record Fits (w : Words) : Type 0 where
   pub marks-long : length w.marks ≡ 900
 
 -- tests that all passed
-passed : (p q t : Bool) (x y z : Refusal) → cond p (cond q (cond t Accepted (RefusedBy z)) (RefusedBy y)) (RefusedBy x) ≡ Accepted
+passed : (p q t : Bool) (x y z : Refusal) → cond p (cond q (cond t (Ok (tt {0})) (Err z)) (Err y)) (Err x) ≡ Ok tt
     → (p ≡ true) × (q ≡ true) × (t ≡ true)
 passed true true true x y z e = (refl, refl, refl)
 passed true true false x y z e = let n : ◌≡◌ {A = ℕ} 0 1 = cc in absurd (omega arith)
 passed true false t x y z e = let n : ◌≡◌ {A = ℕ} 0 1 = cc in absurd (omega arith)
 passed false q t x y z e = let n : ◌≡◌ {A = ℕ} 0 1 = cc in absurd (omega arith)
 
-pub fit-says : (w : Words) → fit_of w ≡ Accepted → Fits w
+pub fit-says : (w : Words) → fit_of w ≡ Ok tt → Fits w
 unfolding fit_of
 fit-says w e =
     let t = passed (is_block w.settings) (eqb (length w.states) 580) (eqb (length w.marks) 900) (no_bank 0) (no_bank 1) (no_bank 2) e in

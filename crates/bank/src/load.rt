@@ -2,35 +2,44 @@
 ghost use Rattle.std.specs.Prelude.{◌≡◌, length, replicate};
 ghost use Rattle.layout.specs.Internal.Sizes.{marks_size, settings_size, states_size};
 ghost use Rattle.layout.specs.Internal.Block.{settings_words};
-ghost use Rattle.reader.specs.Read.{read_of};
+ghost use Rattle.settings.specs.Internal.Replies.{reply_of};
+ghost use Rattle.reader.specs.Read.{read_of, settings_of};
 ghost use Rattle.bank.specs.Internal.Words.{words_in};
 ghost use Rattle.bank.specs.Internal.Load.{load_reply, load_words};
 
-use crate::fit::no_bank;
 use layout::block::{clear, put_settings};
 use layout::sizes::{MARKS_WORDS, SETTINGS_WORDS, STATES_WORDS};
 use reader::read::read;
-use settings::reply::Reply;
+use settings::refusals::{Reason, Refusal};
+use settings::types::no_alarms;
 
-// Writes the three blocks, which have the right lengths.
-fn load_blocks(image: &[u8], settings: &mut [u64], states: &mut [u64], marks: &mut [u64]) -> Reply
+// Writes the three blocks, which have the right lengths; of a refused image, a bank without alarms.
+fn load_blocks(
+    image: &[u8],
+    settings: &mut [u64],
+    states: &mut [u64],
+    marks: &mut [u64],
+) -> Result<(), Refusal>
     requires { (length settings.old ≡ settings_size) × (length states.old ≡ states_size) × (length marks.old ≡ marks_size) }
-    ensures value { result ≡ (read_of image.now).reply }
-    ensures settings_after { settings.new ≡ settings_words (read_of image.now).settings }
+    ensures value { result ≡ reply_of (read_of image.now) }
+    ensures settings_after { settings.new ≡ settings_words (settings_of image.now) }
     ensures states_after { states.new ≡ replicate states_size 0 }
     ensures marks_after { marks.new ≡ replicate marks_size 0 }
 {
-    let loaded = read(image);
-    let given = loaded.settings;
-    let reply = loaded.reply;
-    put_settings(settings, given);
+    let given = read(image);
+    put_settings(settings, given.unwrap_or(no_alarms()));
     clear(states);
     clear(marks);
-    reply
+    given.map(|_| ())
 }
 
 // Writes the bank of a settings image, before its first scan; of a refused image, a bank without alarms.
-pub fn load(image: &[u8], settings: &mut [u64], states: &mut [u64], marks: &mut [u64]) -> Reply
+pub fn load(
+    image: &[u8],
+    settings: &mut [u64],
+    states: &mut [u64],
+    marks: &mut [u64],
+) -> Result<(), Refusal>
     ensures value { result ≡ load_reply (words_in settings.old states.old marks.old) image.now }
     ensures settings_after { settings.new ≡ (load_words (words_in settings.old states.old marks.old)
         image.now).settings }
@@ -39,13 +48,13 @@ pub fn load(image: &[u8], settings: &mut [u64], states: &mut [u64], marks: &mut 
     ensures marks_after { marks.new ≡ (load_words (words_in settings.old states.old marks.old) image.now).marks }
 {
     if settings.len() != SETTINGS_WORDS {
-        return no_bank(0);
+        return Err(Reason::NoBank.at(0));
     }
     if states.len() != STATES_WORDS {
-        return no_bank(1);
+        return Err(Reason::NoBank.at(1));
     }
     if marks.len() != MARKS_WORDS {
-        return no_bank(2);
+        return Err(Reason::NoBank.at(2));
     }
     load_blocks(image, settings, states, marks)
 }

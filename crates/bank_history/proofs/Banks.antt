@@ -25,7 +25,8 @@ use Rattle.settings.specs.declared.types.Kind.{Kind}
 use Rattle.settings.specs.declared.types.Kind.TheVariants.{Digital, Analog}
 use Rattle.settings.specs.declared.types.Form.{Form}
 use Rattle.settings.specs.declared.types.Form.TheVariants.{Digital as DigitalForm, Analog as AnalogForm}
-use Rattle.settings.specs.declared.reply.Reply.TheVariants.{Accepted}
+use Rattle.std.proofs.Common.{Result, Ok, Err}
+use Rattle.settings.specs.declared.refusals.Refusal.{Refusal}
 use Rattle.reader.specs.Internal.Sound.{SoundSettings}
 use Rattle.reader.proofs.Sound.{digital-sound, analog-sound}
 use Rattle.state.specs.Internal.Held.{fresh_state, look_digital, real_patterns, look_analog, run_of, cell_of, Six, HH, H, L, LL, ROCPos, ROCNeg, Side, High, Low}
@@ -150,7 +151,7 @@ in-record : (f : Form) (rec : List ℕ) (at : ℕ) → InRecord (reading_at f re
 in-record DigitalForm rec at = tt
 in-record AnalogForm rec at = of_bits-fits binary32 (number rec at 4)
 
-module _ (image : List ℕ) (past : List (List ℕ)) (b : Bank) (rec : List ℕ) (v : Kept image past b) (ok : check_of b rec ≡ Accepted) where
+module _ (image : List ℕ) (past : List (List ℕ)) (b : Bank) (rec : List ℕ) (v : Kept image past b) (ok : check_of b rec ≡ Ok tt) where
   abbrev counts : Counts
   counts = b.settings.counts
 
@@ -181,7 +182,7 @@ module _ (image : List ℕ) (past : List (List ℕ)) (b : Bank) (rec : List ℕ)
   stepped-is : (p : ℕ) → p < alarms_of b
       → step_at rec counts b.settings.alarms b.states (time_of rec) p ≡ step_of (alarm p) (state_at b p) (seen p).reading (seen p).word (seen p).time
   unfolding step_part
-  stepped-is p h = ap (λ (e : Entry). step_entry e (alarm p) (state_at b p) (time_of rec)) (parts p h)
+  stepped-is p h = ap (λ (e : Result Entry Refusal). step_entry e (alarm p) (state_at b p) (time_of rec)) (parts p h)
 
   pub digital-stepped : (p : ℕ) → p < digital
       → step_at rec counts b.settings.alarms b.states (time_of rec) p

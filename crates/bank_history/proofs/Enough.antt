@@ -12,7 +12,9 @@ use lib.ListN.{length, get_or}
 use Rattle.settings.specs.Internal.Reals.{real_analog}
 use Rattle.wire.specs.Internal.Words.{word_of, how_many}
 use Rattle.settings.specs.Numbers.{reals}
-use Rattle.settings.specs.declared.reply.Reply.TheVariants.{Accepted}
+use Rattle.std.proofs.Common.{Result, Ok, Err}
+use Rattle.std.specs.Result.{is_ok}
+use Rattle.settings.specs.declared.refusals.Refusal.{Refusal}
 use Rattle.settings.specs.declared.types.Kind.{Kind}
 use Rattle.settings.specs.declared.types.Kind.TheVariants.{Digital, Analog}
 use Rattle.state.specs.Internal.Held.{look_digital, real_patterns, look_analog}
@@ -30,22 +32,21 @@ use Rattle.settings.specs.declared.counts.Counts.{Counts}
 use Rattle.reader.proofs.Sound.{digital-sound}
 use Rattle.scan_record.specs.Entry.{entry_at}
 use Rattle.scan_record.specs.declared.entry.Entry.{Entry}
-use Rattle.scan_record.specs.declared.entry.Entry.TheVariants.{Read, Refused}
 use Rattle.scan.specs.Internal.Plan.{step_entry, step_part, step_at, count_of}
 use Rattle.sweep.specs.Internal.Sweep.{most_events}
 use Rattle.scan.proofs.Plans.{word_at, word_small, up-to-count}
 use Rattle.scan.specs.Internal.Scan.{Scanned, check_of, alarms_of, plan_for, events_in, checked_scan, scan_of}
 use Rattle.bank.specs.Internal.Bank.{Bank}
 use Rattle.scan.proofs.Scans.{accepted-scan}
-use Rattle.bank_history.specs.Answers.{alarm_at, is_accepted}
+use Rattle.bank_history.specs.Answers.{alarm_at}
 use Rattle.bank_history.proofs.Banks.{Kept, state_at, digital-kind}
 
 -- a record that passed the check is accepted where its events have room
-pub accepted-with-room : (b : Bank) (rec : List ℕ) (room : ℕ) → check_of b rec ≡ Accepted → 16 * length (events_in b rec) ≤ room
-    → is_accepted (scan_of b rec room).answer ≡ true
+pub accepted-with-room : (b : Bank) (rec : List ℕ) (room : ℕ) → check_of b rec ≡ Ok tt → 16 * length (events_in b rec) ≤ room
+    → is_ok (scan_of b rec room).answer ≡ true
 unfolding checked_scan
 accepted-with-room b rec room ok h =
-    ap (λ (x : Scanned). is_accepted x.answer) (accepted-scan b rec room ok) ∙ rw (le-ltb room (16 * length (events_in b rec)) h) refl
+    ap (λ (x : Scanned). is_ok x.answer) (accepted-scan b rec room ok) ∙ rw (le-ltb room (16 * length (events_in b rec)) h) refl
 
 -- ---- 3,840 bytes
 
@@ -80,14 +81,14 @@ unfolding step_kind digital_step
 digital-step-most severity a s x word time =
     omega (arith, word_ones (digital_events a x word time (look_digital s)), digital-most a x word time (look_digital s))
 
-entry-most : (e : Entry) (a : Alarm) (s : State) (time : ℕ) → ones (step_entry e a s time).events ≤ 15
-entry-most (Read x word next) a s time = step-most a.kind a s x word time
-entry-most (Refused r) a s time = omega (arith, no_ones)
+entry-most : (e : Result Entry Refusal) (a : Alarm) (s : State) (time : ℕ) → ones (step_entry e a s time).events ≤ 15
+entry-most (Ok e) a s time = step-most a.kind a s e.reading e.word time
+entry-most (Err r) a s time = omega (arith, no_ones)
 
-digital-entry-most : (e : Entry) (a : Alarm) (s : State) (time : ℕ) {severity : ℕ} → a.kind ≡ Digital severity → ones (step_entry e a s time).events ≤ 5
-digital-entry-most (Read x word next) a s time {severity} k =
-    subst (λ (q : Kind). ones (step_kind q a s x word time).events ≤ 5) (sym k) (digital-step-most severity a s x word time)
-digital-entry-most (Refused r) a s time k = omega (arith, no_ones)
+digital-entry-most : (e : Result Entry Refusal) (a : Alarm) (s : State) (time : ℕ) {severity : ℕ} → a.kind ≡ Digital severity → ones (step_entry e a s time).events ≤ 5
+digital-entry-most (Ok e) a s time {severity} k =
+    subst (λ (q : Kind). ones (step_kind q a s e.reading e.word time).events ≤ 5) (sym k) (digital-step-most severity a s e.reading e.word time)
+digital-entry-most (Err r) a s time k = omega (arith, no_ones)
 
 module _ (image : List ℕ) (past : List (List ℕ)) (b : Bank) (rec : List ℕ) (v : Kept image past b) where
   abbrev counts : Counts
@@ -103,7 +104,7 @@ module _ (image : List ℕ) (past : List (List ℕ)) (b : Bank) (rec : List ℕ)
   word-of p h = word_at rec counts b.settings.alarms b.states (time_of rec) most p h
 
   -- the part of the record for the alarm at a place
-  abbrev entry : ℕ → Entry
+  abbrev entry : ℕ → Result Entry Refusal
   entry p = entry_at (form_at counts p) rec (offset_of counts p) (p + 1)
 
   any-most : (p : ℕ) → p < alarms_of b → ones (get_or (plan_for b rec).events p 0) ≤ 15

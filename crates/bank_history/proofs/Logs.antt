@@ -12,7 +12,7 @@ use lib.Ieee.{Float}
 use Rattle.settings.specs.Internal.Reals.{real_analog}
 use Rattle.settings.specs.Numbers.{reals}
 use Rattle.settings.specs.declared.types.Alarm.{Alarm}
-use Rattle.settings.specs.declared.reply.Reply.TheVariants.{Accepted}
+use Rattle.std.proofs.Common.{Ok}
 use Rattle.event.specs.Event.{Event}
 use Rattle.state.specs.Internal.Held.{DigitalHeld, AnalogHeld, fresh_state}
 use Rattle.digital.specs.Internal.Digital.{digital_events}
@@ -33,7 +33,7 @@ use Rattle.bank.specs.Internal.Bank.{Bank}
 use Rattle.bank_history.specs.Answers.{alarm_at, scan_at, scans_at, scan_log, log_of}
 use Rattle.bank_history.proofs.Banks.{Kept, state_at, digital-of, analog-of, digital-stepped, analog-stepped, word_after, next-kept}
 
-module _ (image : List ℕ) (past : List (List ℕ)) (b : Bank) (rec : List ℕ) (v : Kept image past b) (ok : check_of b rec ≡ Accepted) where
+module _ (image : List ℕ) (past : List (List ℕ)) (b : Bank) (rec : List ℕ) (v : Kept image past b) (ok : check_of b rec ≡ Ok tt) where
   abbrev digital : ℕ
   digital = b.settings.counts.digital
 

@@ -14,7 +14,7 @@ use Rattle.settings.specs.Condition.{Condition, In, conditions_of}
 use Rattle.settings.specs.Alarm.{ack_required}
 use Rattle.reader.proofs.Sound.{digital-sound, analog-sound}
 use Rattle.settings.specs.Numbers.{Numbers, AnalogOf, reals, analog_reals}
-use Rattle.settings.specs.declared.reply.Reply.TheVariants.{Accepted}
+use Rattle.std.proofs.Common.{Ok}
 use Rattle.settings.specs.declared.types.Alarm.{Alarm}
 use Rattle.settings.specs.declared.types.Limits.{Limits}
 use Rattle.settings.specs.declared.types.Severities.{Severities}
@@ -177,12 +177,12 @@ module _ (s : State) (words : List ℕ) (at time : ℕ) (scans : List Scan) (t :
   module _ (a : Alarm) where
     -- the bank's, and what the scans say
     abbrev given : Kind → AlarmReport
-    given k = record { reply = Accepted; alarm = whole_kind k a.duration s time; resettime = get_or words at 0; conditions = statuses_of k words at s.flags }
+    given k = record { reply = Ok tt; alarm = whole_kind k a.duration s time; resettime = get_or words at 0; conditions = statuses_of k words at s.flags }
 
     abbrev said : Kind → AlarmReport
     said k =
         record {
-          reply = Accepted;
+          reply = Ok tt;
           alarm = record {
             enabled = not (disabled_in scans);
             suppressed = suppressed_in scans;
@@ -202,7 +202,7 @@ module _ (s : State) (words : List ℕ) (at time : ℕ) (scans : List Scan) (t :
     digital-said severity asked v =
         λ i.
         record {
-          reply = Accepted;
+          reply = Ok tt;
           alarm = digital-whole a severity asked v (sym (or-false (severity_invalid severity))) i;
           resettime = digital-reset a severity asked v i;
           conditions = digital-status a severity asked v i ∷ no_status ∷ no_status ∷ no_status ∷ no_status ∷ no_status ∷ [];
@@ -218,7 +218,7 @@ module _ (s : State) (words : List ℕ) (at time : ℕ) (scans : List Scan) (t :
         let x : AnalogOf Float = analog_reals a.flags a.duration g period in
         λ i.
         record {
-          reply = Accepted;
+          reply = Ok tt;
           alarm = analog-whole reals real_patterns shown_real x asked v severities (any-invalid severities g period) i;
           resettime = analog-reset reals real_patterns shown_real x asked v i;
           conditions = analog-statuses reals real_patterns shown_real x asked v i;

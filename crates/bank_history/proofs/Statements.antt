@@ -13,20 +13,21 @@ use Rattle.alarm_history.specs.Scans.{Scan}
 use Rattle.settings.specs.Counts.{in_all}
 use Rattle.settings.proofs.Few.{good as counts-good}
 use Rattle.settings.specs.Condition.{Condition, In, conditions_of}
+use Rattle.std.proofs.Common.{Result, Ok, Err}
+use Rattle.std.specs.Result.{is_ok}
 use Rattle.settings.specs.Refusals.{refusal}
+use Rattle.settings.specs.declared.refusals.Reason.TheVariants.{ImageTooLong}
 use Rattle.settings.specs.declared.types.Kind.{Kind}
 use Rattle.settings.specs.declared.types.Kind.TheVariants.{Digital, Analog}
 use Rattle.settings.specs.declared.types.Settings.{Settings}
 use Rattle.history.specs.Demand.{in_alarm, unacknowledged, count}
 use Rattle.history.specs.Words.{Demand3}
 use Rattle.history.proofs.Demand.{demand}
-use Rattle.reader.specs.Read.{read_of}
+use Rattle.reader.specs.Read.{settings_of}
 use Rattle.image.specs.Internal.Write.{image_of, written_of, image_buffer}
-use Rattle.image.specs.declared.write.Written.TheVariants.{Length, Refused}
 use Rattle.image.proofs.RoundTrip as RoundTrip
 use Rattle.reader.proofs.Sound.{sound-settings}
 use Rattle.scan_record.specs.Check.{check_record}
-use Rattle.settings.specs.declared.reply.Reply.TheVariants.{Accepted}
 use Rattle.alarm_history.specs.Facts.{rules_of, facts}
 use Rattle.bank.specs.Internal.Bank.{Bank, fresh_bank, load_of}
 use Rattle.scan.specs.Internal.Scan.{alarms_of, scan_of, event_buffer}
@@ -38,7 +39,7 @@ use Rattle.report.specs.Internal.Report.{is_there, report_at, report_of, report_
 use Rattle.report.specs.declared.status.Status.{Status}
 use Rattle.report.specs.declared.report.AlarmReport.{AlarmReport}
 use Rattle.bank_history.specs.Calls.{Call}
-use Rattle.bank_history.specs.Answers.{alarm_at, scans_at, last_accepted, answer_to, buffer_after, is_accepted}
+use Rattle.bank_history.specs.Answers.{alarm_at, scans_at, last_accepted, answer_to, buffer_after}
 use Rattle.bank_history.specs.Report.{status_of, alarm_report, report_after}
 use Rattle.bank_history.specs.Statements.{Good, settings, words, records, Replies, EveryReply, DemandThree, TwoReceivers}
 use Rattle.bank_history.proofs.Banks.{Kept, fresh_kept}
@@ -70,7 +71,7 @@ module _ (image : List ℕ) (calls : List Call) (good : Good image) where
   s = settings image
 
   abbrev b : Bank
-  b = bank_after_all (load_of image).bank calls
+  b = bank_after_all (load_of image) calls
 
   abbrev w : Words
   w = words image calls
@@ -80,10 +81,10 @@ module _ (image : List ℕ) (calls : List Call) (good : Good image) where
 
   after-all : Kept image past b × (b.settings ≡ s)
   unfolding load_of fresh_bank
-  after-all = kept-after image calls [] (load_of image).bank (fresh_kept image s (sound-settings image))
+  after-all = kept-after image calls [] (load_of image) (fresh_kept image s (sound-settings image))
 
   -- the words stand for it
-  fits : fit_of w ≡ Accepted
+  fits : fit_of w ≡ Ok tt
   fits = (lent-bank image calls good.0).0
 
   stands : bank_in w ≡ b
@@ -103,8 +104,8 @@ module _ (image : List ℕ) (calls : List Call) (good : Good image) where
   event-bytes-said : (rec out : List ℕ) → event_buffer b rec out ≡ buffer_after s past rec out
   event-bytes-said rec out = buffer-said image past b kept rec out ∙ ap (λ (x : Settings). buffer_after x past rec out) stay
 
-  suffices : (rec : List ℕ) (room : ℕ) → check_record s.counts (last_accepted past) rec ≡ Accepted → 3840 ≤ room
-      → is_accepted (scan_of b rec room).answer ≡ true
+  suffices : (rec : List ℕ) (room : ℕ) → check_record s.counts (last_accepted past) rec ≡ Ok tt → 3840 ≤ room
+      → is_ok (scan_of b rec room).answer ≡ true
   suffices rec room ok h =
       accepted-with-room b rec room (ap₂ (λ (x : Settings) (t : ℕ). check_record x.counts t rec) stay kept.time ∙ ok)
       (omega (arith, enough image past b rec kept))
@@ -136,7 +137,7 @@ module _ (image : List ℕ) (calls : List Call) (good : Good image) where
   image-is : image_of s ≡ image
   image-is = RoundTrip.round_trip image good.0 good.1
 
-  write-said : (room : ℕ) → written_of b.settings room ≡ cond (leb (length image) room) (Length (length image)) (Refused (refusal 13 0))
+  write-said : (room : ℕ) → written_of b.settings room ≡ cond (leb (length image) room) (Ok (length image)) (Err (refusal ImageTooLong 0))
   unfolding written_of
   write-said room = rw (stay, RoundTrip.room-is image good.0 good.1 room, image-is)
 
@@ -158,10 +159,10 @@ module _ (image : List ℕ) (calls : List Call) (good : Good image) where
   replies : Replies image calls
   replies =
       record {
-        accepting = λ rec room. ap is_accepted (lent-answer rec room);
+        accepting = λ rec room. ap is_ok (lent-answer rec room);
         answer = lent-answer;
         buffer = λ rec out. buffer-on w fits rec out ∙ ap (λ (x : Bank). event_buffer x rec out) stands ∙ event-bytes-said rec out;
-        suffices = λ rec room ok h. ap is_accepted (to-bank rec room) ∙ suffices rec room ok h;
+        suffices = λ rec room ok h. ap is_ok (to-bank rec room) ∙ suffices rec room ok h;
         report = lent-report;
         write = λ room. write-on w fits room ∙ ap (λ (x : Bank). written_of x.settings room) stands ∙ write-said room;
         image-written = λ out. written_on w fits out ∙ ap (λ (x : Bank). image_buffer x.settings out) stands ∙ written-said out;
@@ -207,5 +208,5 @@ demand-three image calls n i good low high h = demanded image calls good n i low
 pub two-receivers : TwoReceivers
 two-receivers image calls calls' n good e =
     (every-reply image calls good).report n
-    ∙ ap (λ (past : List (List ℕ)). report_after (read_of image).settings past n) e
+    ∙ ap (λ (past : List (List ℕ)). report_after (settings_of image) past n) e
     ∙ sym ((every-reply image calls' good).report n)

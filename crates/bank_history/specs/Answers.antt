@@ -1,20 +1,19 @@
 -- What a scan answers and which events it writes, from the settings and the records accepted before alone. Records stand latest first.
-use Rattle.std.specs.Prelude.{ℕ, zero, suc, ◌*◌, Bool, true, false, cond, List, [], ◌∷◌, ◌++◌, map, ltb, length, get_or, drop}
+use Rattle.std.specs.Prelude.{ℕ, zero, suc, ◌*◌, Bool, cond, List, [], ◌∷◌, ◌++◌, map, ltb, length, get_or, drop, Result, Ok, Err}
 use Rattle.settings.specs.Counts.{in_all, form_at}
 use Rattle.settings.specs.Alarm.{blank}
-use Rattle.settings.specs.Refusals.{refusal}
+use Rattle.std.specs.Result.{is_ok}
+use Rattle.settings.specs.Refusals.{refusal, and_then}
+use Rattle.settings.specs.declared.refusals.Refusal.{Refusal}
+use Rattle.settings.specs.declared.refusals.Reason.TheVariants.{EventsTooLong}
 use Rattle.settings.specs.declared.types.Alarm.{Alarm}
 use Rattle.settings.specs.declared.types.Form.{Form}
 use Rattle.settings.specs.declared.types.Settings.{Settings}
-use Rattle.settings.specs.declared.reply.Reply.{Reply}
-use Rattle.settings.specs.declared.reply.Reply.TheVariants.{Accepted, Refused as RefusedBy}
 use Rattle.event.specs.Event.{Event, log_bytes}
 use Rattle.scan_record.specs.Part.{time_of, reading_at, word_at, offset_of}
 use Rattle.scan_record.specs.Check.{check_record}
 use Rattle.alarm_history.specs.Scans.{Scan}
 use Rattle.alarm_history.specs.Events.{alarm_log}
-use Rattle.scan.specs.declared.answer.Answer.{Answer}
-use Rattle.scan.specs.declared.answer.Answer.TheVariants.{Events, Refused}
 use Rattle.bank_history.specs.Calls.{Call, scan}
 
 -- the alarm at a place, from 0, and the scans that the records are to it, each by its part
@@ -44,29 +43,24 @@ last_accepted [] = 0
 last_accepted (rec ∷ past) = time_of rec
 
 -- after the check: 12 where the buffer is too short for 16 bytes an event, or the number of events
-abbrev pub after_check : Reply → ℕ → ℕ → Answer
-after_check Accepted room events = cond (ltb room (16 * events)) (Refused (refusal 12 0)) (Events events)
-after_check (RefusedBy r) room events = Refused r
+abbrev pub with_room : ℕ → ℕ → Result ℕ Refusal
+with_room room events = cond (ltb room (16 * events)) (Err (refusal EventsTooLong 0)) (Ok events)
 
 -- the answer to a record, given the length of the lent buffer: the first of 7 to 12, or the number of events
-abbrev pub answer_to : Settings → List (List ℕ) → List ℕ → ℕ → Answer
-answer_to s past rec room = after_check (check_record s.counts (last_accepted past) rec) room (length (log_of s rec past))
+abbrev pub answer_to : Settings → List (List ℕ) → List ℕ → ℕ → Result ℕ Refusal
+answer_to s past rec room = and_then (check_record s.counts (last_accepted past) rec) (λ _. with_room room (length (log_of s rec past)))
 
 -- the buffer after it: the event records in front of what stood behind them; a refusal leaves every byte
-abbrev pub logged : Answer → List ℕ → List ℕ → List ℕ
-logged (Events n) log out = log ++ drop (length log) out
-logged (Refused r) log out = out
+abbrev pub logged : Result ℕ Refusal → List ℕ → List ℕ → List ℕ
+logged (Ok n) log out = log ++ drop (length log) out
+logged (Err r) log out = out
 
 abbrev pub buffer_after : Settings → List (List ℕ) → List ℕ → List ℕ → List ℕ
 buffer_after s past rec out = logged (answer_to s past rec (length out)) (log_bytes (log_of s rec past)) out
 
 -- a scan is accepted where none of its refusals applies
-abbrev pub is_accepted : Answer → Bool
-is_accepted (Events n) = true
-is_accepted (Refused r) = false
-
 abbrev pub accepts : Settings → List (List ℕ) → List ℕ → ℕ → Bool
-accepts s past rec room = is_accepted (answer_to s past rec room)
+accepts s past rec room = is_ok (answer_to s past rec room)
 
 -- the records after a call: that of an accepted scan in front of those before it
 abbrev pub records_after : Settings → List (List ℕ) → Call → List (List ℕ)

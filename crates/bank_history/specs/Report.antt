@@ -1,5 +1,5 @@
 -- What a report says of an alarm, from the settings and the accepted records alone.
-use Rattle.std.specs.Prelude.{ℕ, ◌-◌, Bool, false, not, ◌&&◌, ◌||◌, cond, leb, take, Float}
+use Rattle.std.specs.Prelude.{ℕ, ◌-◌, Bool, false, not, ◌&&◌, ◌||◌, cond, leb, take, Float, Ok}
 use mathlib.Core.List.{List, ◌++◌, map, foldr}
 use Rattle.wire.specs.Real.{zero_real}
 use Rattle.settings.specs.Counts.{in_all}
@@ -9,7 +9,6 @@ use Rattle.settings.specs.declared.types.Alarm.{Alarm}
 use Rattle.settings.specs.declared.types.Kind.{Kind}
 use Rattle.settings.specs.declared.types.Kind.TheVariants.{Digital, Analog}
 use Rattle.settings.specs.declared.types.Settings.{Settings}
-use Rattle.settings.specs.declared.reply.Reply.TheVariants.{Accepted}
 use Rattle.history.specs.Demand.{in_alarm, unacknowledged, count}
 use Rattle.settings.specs.Severity.{severity_invalid}
 use Rattle.alarm_history.specs.Scans.{Scan, disabled_in, suppressed_in, faulted_in}
@@ -54,7 +53,7 @@ status_of r scans c =
 abbrev pub alarm_report : Alarm → List Scan → AlarmReport
 alarm_report a scans =
     record {
-      reply = Accepted;
+      reply = Ok tt;
       alarm = record {
         enabled = not (disabled_in scans);
         suppressed = suppressed_in scans;

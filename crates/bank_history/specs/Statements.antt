@@ -1,15 +1,15 @@
 -- The public statements: what every list of calls gives, from an accepted settings image on, and demand 3.
-use Rattle.std.specs.Prelude.{ℕ, ◌-◌, ◌≤◌, ◌<◌, ◌≡◌, true, not, cond, List, [], ◌++◌, T, leb, length, get_or, drop}
+use Rattle.std.specs.Prelude.{ℕ, ◌-◌, ◌≤◌, ◌<◌, ◌≡◌, true, not, cond, List, [], ◌++◌, T, leb, length, get_or, drop, Ok, Err}
 use Rattle.std.proofs.Math.Pow.{are_bytes}
 use Rattle.settings.specs.Counts.{in_all}
 use Rattle.settings.specs.Condition.{In, conditions_of}
+use Rattle.std.specs.Result.{IsOk, is_ok}
 use Rattle.settings.specs.Refusals.{refusal}
+use Rattle.settings.specs.declared.refusals.Reason.TheVariants.{ImageTooLong}
 use Rattle.settings.specs.declared.types.Settings.{Settings}
-use Rattle.settings.specs.declared.reply.Reply.TheVariants.{Accepted}
 use Rattle.history.specs.Words.{Demand3}
-use Rattle.reader.specs.Read.{read_of}
+use Rattle.reader.specs.Read.{read_of, settings_of}
 use Rattle.image.specs.Internal.Write.{write_of, write_buffer}
-use Rattle.image.specs.declared.write.Written.TheVariants.{Length, Refused}
 use Rattle.scan_record.specs.Check.{check_record}
 use Rattle.alarm_history.specs.Facts.{rules_of, facts}
 use Rattle.bank.specs.Lent.{Words}
@@ -18,15 +18,15 @@ use Rattle.bank.specs.Internal.Load.{loaded_words}
 use Rattle.report.specs.Empty.{no_status}
 use Rattle.report.specs.Internal.Report.{report_in}
 use Rattle.bank_history.specs.Calls.{Call, after}
-use Rattle.bank_history.specs.Answers.{alarm_at, scans_at, last_accepted, answer_to, buffer_after, is_accepted, accepts, accepted}
+use Rattle.bank_history.specs.Answers.{alarm_at, scans_at, last_accepted, answer_to, buffer_after, accepts, accepted}
 use Rattle.bank_history.specs.Report.{report_after}
 
 -- the image is one of bytes, and is accepted
 abbrev pub Good : List ℕ → Type 0
-Good image = T (are_bytes image) × ((read_of image).reply ≡ Accepted)
+Good image = T (are_bytes image) × IsOk (read_of image)
 
 abbrev pub settings : List ℕ → Settings
-settings image = (read_of image).settings
+settings image = settings_of image
 
 module _ (image : List ℕ) (calls : List Call) where
   -- the words of the bank after the calls
@@ -40,17 +40,17 @@ module _ (image : List ℕ) (calls : List Call) where
   -- what one more call then gives
   pub record Replies : Type 0 where
     -- a scan: it is not refused exactly where none of 7 to 12 applies
-    pub accepting : (rec : List ℕ) (room : ℕ) → is_accepted (answer_of words rec room) ≡ accepts (settings image) records rec room
+    pub accepting : (rec : List ℕ) (room : ℕ) → is_ok (answer_of words rec room) ≡ accepts (settings image) records rec room
     -- its answer, and every byte of its event buffer
     pub answer : (rec : List ℕ) (room : ℕ) → answer_of words rec room ≡ answer_to (settings image) records rec room
     pub buffer : (rec out : List ℕ) → buffer_of words rec out ≡ buffer_after (settings image) records rec out
     -- with 3,840 bytes only 7 to 11 refuse
-    pub suffices : (rec : List ℕ) (room : ℕ) → check_record (settings image).counts (last_accepted records) rec ≡ Accepted → 3840 ≤ room
-        → is_accepted (answer_of words rec room) ≡ true
+    pub suffices : (rec : List ℕ) (room : ℕ) → check_record (settings image).counts (last_accepted records) rec ≡ Ok tt → 3840 ≤ room
+        → is_ok (answer_of words rec room) ≡ true
     -- a report
     pub report : (n : ℕ) → report_in words n ≡ report_after (settings image) records n
     -- the writer: the image that was read, or 13
-    pub write : (room : ℕ) → write_of words.settings room ≡ cond (leb (length image) room) (Length (length image)) (Refused (refusal 13 0))
+    pub write : (room : ℕ) → write_of words.settings room ≡ cond (leb (length image) room) (Ok (length image)) (Err (refusal ImageTooLong 0))
     pub image-written : (out : List ℕ) → write_buffer words.settings out ≡ cond (leb (length image) (length out)) (image ++ drop (length image) out) out
 
 -- every reply and every byte, for every list of calls

@@ -1,6 +1,6 @@
 // What both programs print of a bank's answers.
 use report::status::Status;
-use settings::reply::Refusal;
+use settings::refusals::Refusal;
 use text::output::TEXT_SIZE;
 use text::show::add_form;
 
@@ -11,7 +11,7 @@ pub fn add_refused(
     waiting: usize,
     refusal: Refusal,
 ) -> usize {
-    let numbers = [refusal.number as u64, refusal.place as u64];
+    let numbers = [u64::from(refusal.reason.number()), refusal.place as u64];
     add_form(rt, text, waiting, b"refused A B", &numbers)
 }
 

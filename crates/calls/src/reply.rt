@@ -3,7 +3,7 @@ use crate::lent::touched;
 use bank_text::answers::{add_conditions, add_refused};
 use call_text::words::word;
 use report::report::AlarmReport;
-use settings::reply::Reply;
+use settings::refusals::Refusal;
 use text::input::part;
 use text::output::{TEXT_SIZE, add};
 use text::show::{add_form, add_pairs};
@@ -20,7 +20,7 @@ pub const NO_BYTES: usize = 3;
 // the buffer's front it wrote.
 #[derive(Clone, Copy)]
 pub struct Said {
-    pub reply: Reply,
+    pub reply: Result<(), Refusal>,
     pub form: usize,
     pub number: u64,
     pub length: usize,
@@ -47,10 +47,9 @@ pub fn add_said(
     said: Said,
     lent: &[u8],
 ) -> usize {
-    let reply = said.reply;
-    let at = match reply {
-        Reply::Accepted => add_accepted(rt, text, waiting, said, lent),
-        Reply::Refused(refusal) => add_refused(rt, text, waiting, refusal),
+    let at = match said.reply {
+        Ok(()) => add_accepted(rt, text, waiting, said, lent),
+        Err(refusal) => add_refused(rt, text, waiting, refusal),
     };
     let more = touched(lent, said.length);
     add(rt, text, at, word(b" touched", b'|', more))
@@ -84,13 +83,12 @@ pub fn add_report(
     found: AlarmReport,
     is_digital: bool,
 ) -> usize {
-    let reply = found.reply;
     let conditions = found.conditions;
-    match reply {
-        Reply::Accepted => {
+    match found.reply {
+        Ok(()) => {
             let at = add_whole(rt, text, waiting, found);
             add_conditions(rt, text, at, b" / A B C E F G H", 0, is_digital, conditions)
         }
-        Reply::Refused(refusal) => add_refused(rt, text, waiting, refusal),
+        Err(refusal) => add_refused(rt, text, waiting, refusal),
     }
 }

@@ -6,14 +6,13 @@ use call_text::call::{Call, REPORT, SCAN, SETTINGS, call_of};
 use call_text::fault::{NONE, add_fault};
 use call_text::spelling::{BYTES, BYTES_SIZE, NUMBER, ROOM};
 use event::write::EVENT_SIZE;
-use image::write::{Written, write};
+use image::write::write;
 use layout::block::counts_in;
 use layout::sizes::{MARKS_WORDS, SETTINGS_WORDS, STATES_WORDS};
 use report::report::report;
-use scan::answer::Answer;
 use scan::scan::scan;
 use settings::counts::{Counts, are_good, in_all};
-use settings::reply::{Refusal, Reply};
+use settings::refusals::Refusal;
 use text::input::part;
 use text::output::TEXT_SIZE;
 
@@ -34,7 +33,7 @@ fn events_length(number: usize, room: usize) -> usize {
 // The answer with a number and bytes.
 fn written(number: usize, length: usize) -> Said {
     Said {
-        reply: Reply::Accepted,
+        reply: Ok(()),
         form: if length == 0 { NO_BYTES } else { WITH_BYTES },
         number: number as u64,
         length,
@@ -43,7 +42,7 @@ fn written(number: usize, length: usize) -> Said {
 
 fn refused(refusal: Refusal) -> Said {
     Said {
-        reply: Reply::Refused(refusal),
+        reply: Err(refusal),
         form: 0,
         number: 0,
         length: 0,
@@ -76,16 +75,16 @@ fn run_scan(
 ) -> Said {
     let room = lent.len();
     match scan(settings, states, marks, record, lent) {
-        Answer::Events(number) => written(number, events_length(number, room)),
-        Answer::Refused(refusal) => refused(refusal),
+        Ok(number) => written(number, events_length(number, room)),
+        Err(refusal) => refused(refusal),
     }
 }
 
 // Writes a bank's settings to a lent buffer.
 fn run_write(settings: &[u64], lent: &mut [u8]) -> Said {
     match write(settings, lent) {
-        Written::Length(length) => written(length, length),
-        Written::Refused(refusal) => refused(refusal),
+        Ok(length) => written(length, length),
+        Err(refusal) => refused(refusal),
     }
 }
 

@@ -23,7 +23,7 @@ use Rattle.settings.specs.Internal.Sound.{BoundedReals, SoundAlarm}
 use Rattle.settings.specs.declared.types.Alarm.{Alarm}
 use Rattle.settings.specs.declared.types.Form.{Form}
 use Rattle.settings.specs.declared.types.Form.TheVariants.{Digital as DigitalForm, Analog as AnalogForm}
-use Rattle.settings_record.specs.declared.record.Record.TheVariants.{Alarm as Recorded}
+use Rattle.std.proofs.Common.{Ok}
 
 -- what is known of a record that was read: where it ends, that it is there whole, and its bytes
 pub record Inverse (form : Form) (image : List ℕ) (at : ℕ) (a : Alarm) (next : ℕ) : Type 0 where
@@ -74,7 +74,7 @@ module _ (image : List ℕ) (b : T (are_bytes image)) (at : ℕ) where
 
 -- of a record of either form
 module _ (image : List ℕ) (b : T (are_bytes image)) (at : ℕ) {a : Alarm} {next : ℕ} where
-  record-bytes : (form : Form) → record_at form image at ≡ Recorded a next → record_bytes form a ≡ part image at (size_of form)
+  record-bytes : (form : Form) → record_at form image at ≡ Ok (a, next) → record_bytes form a ≡ part image at (size_of form)
   record-bytes DigitalForm e =
       let r = was_read DigitalForm image at e in
       rw (← r.alarm) (digital-bytes image b at r.whole)
@@ -82,7 +82,7 @@ module _ (image : List ℕ) (b : T (are_bytes image)) (at : ℕ) {a : Alarm} {ne
       let r = was_read AnalogForm image at e in
       rw (← r.alarm) (analog-bytes image b at r.whole (analog-bounded image b at r.alarm (sound AnalogForm image at e)))
 
-pub inverse : (form : Form) (image : List ℕ) → T (are_bytes image) → (at : ℕ) {a : Alarm} {next : ℕ} → record_at form image at ≡ Recorded a next
+pub inverse : (form : Form) (image : List ℕ) → T (are_bytes image) → (at : ℕ) {a : Alarm} {next : ℕ} → record_at form image at ≡ Ok (a, next)
     → Inverse form image at a next
 inverse form image b at e =
     let r = was_read form image at e in

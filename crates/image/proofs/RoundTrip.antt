@@ -14,28 +14,23 @@ use lib.Seq.{slice, slice_empty, slice-cons, take-take, take-set-le, get_or-take
 use Rattle.wire.specs.Number.{part}
 use Rattle.wire.proofs.Laws.{part-suc, part-add}
 use Rattle.settings.proofs.Few.{good}
-use Rattle.settings.specs.Alarm.{blank, blanks}
+use Rattle.settings.specs.Alarm.{blank, blanks, empty}
 use Rattle.reader.specs.Count.{count_at}
 use Rattle.settings_record.specs.Record.{record_at, size_of}
-use Rattle.reader.specs.Section.{records_from, section_at, on_record, on_count}
-use Rattle.reader.specs.Read.{read_of, rest_of, on_section, refused_by}
+use Rattle.reader.specs.Section.{records_from, section_at}
+use Rattle.reader.specs.Read.{read_of, rest_of, settings_of}
 use Rattle.image.specs.Internal.Write.{records_bytes, section_bytes, image_of, has_room, written_of, image_buffer}
+use Rattle.std.proofs.Common.{Ok, Err}
+use Rattle.std.specs.Result.{is_ok}
+use Rattle.settings.proofs.Followed.{ok-same, and-then-ok, spared, was-ok}
 use Rattle.settings.specs.Refusals.{refusal}
+use Rattle.settings.specs.declared.refusals.Reason.TheVariants.{LeftOver, ImageTooLong}
 use Rattle.image.specs.Internal.RoundTrip.{RoundTrip}
 use Rattle.settings.specs.declared.types.Alarm.{Alarm}
 use Rattle.settings.specs.declared.types.Form.{Form}
 use Rattle.settings.specs.declared.types.Form.TheVariants.{Digital as DigitalForm, Analog as AnalogForm}
-use Rattle.reader.specs.declared.count.Count.{Count}
-use Rattle.reader.specs.declared.count.Count.TheVariants.{Alarms, Refused as NoCount}
-use Rattle.settings_record.specs.declared.record.Record.{Record}
-use Rattle.settings_record.specs.declared.record.Record.TheVariants.{Alarm as Recorded, Refused as NoRecord}
-use Rattle.reader.specs.declared.section.Filled.{Filled}
 use Rattle.reader.specs.declared.section.Section.{Section}
-use Rattle.reader.specs.declared.section.Section.TheVariants.{Read, Refused}
 use Rattle.settings.specs.declared.types.Settings.{Settings}
-use Rattle.settings.specs.declared.reply.Reply.TheVariants.{Accepted}
-use Rattle.reader.specs.declared.read.Loaded.{Loaded}
-use Rattle.image.specs.declared.write.Written.TheVariants.{Length, Refused as TooShort}
 use Rattle.image.proofs.Inverse.{Inverse, inverse}
 use Rattle.reader.proofs.Sections.{count-read, records-count}
 use Rattle.reader.proofs.Sound.{sound-settings}
@@ -90,30 +85,24 @@ module _ (form : Form) (image : List ℕ) (k place at : ℕ) (alarms : List Alar
             ∙ ap (part image at) e;
       }
 
-walked : (form : Form) (image : List ℕ) → T (are_bytes image) → (n k place at : ℕ) (alarms : List Alarm) {m next : ℕ} → place + k ≤ length alarms
-    → (records_from form image n k place at alarms).section ≡ Read m next
-    → Walked form image k place at alarms (records_from form image n k place at alarms).alarms next
+walked : (form : Form) (image : List ℕ) → T (are_bytes image) → (n k place at : ℕ) (alarms : List Alarm) {s : Section} → place + k ≤ length alarms
+    → records_from form image n k place at alarms ≡ Ok s → Walked form image k place at alarms s.alarms s.next
 unfolding records_from records_bytes
-walked form image b n zero place at alarms {m} {next} h e =
-    let n≡ : at ≡ next = cc in
-    record {
+walked form image b n zero place at alarms h e =
+    subst (λ (s : Section). Walked form image 0 place at alarms s.alarms s.next) (ok-same e)
+    (record {
       past = omega (arith, mul-zero (size_of form));
-      whole = λ w. omega arith;
+      whole = λ w. w;
       long = refl;
       kept = refl;
       bytes = simp (add-zero, slice_empty, mul-zero);
-    }
-walked form image b n (suc k) place at alarms {m} {next} h e =
-    go (record_at form image at) refl (λ a past q. walked form image b n k (place + 1) past (set alarms place a) (simp length-set (omega arith)) q) e
-  where
-    rest : Alarm → ℕ → Filled
-    rest a past = records_from form image n k (place + 1) past (set alarms place a)
-
-    go : (r : Record) → record_at form image at ≡ r
-        → ((a : Alarm) (past : ℕ) → (rest a past).section ≡ Read m next → Walked form image k (place + 1) past (set alarms place a) (rest a past).alarms next)
-        → (on_record r alarms rest).section ≡ Read m next → Walked form image (suc k) place at alarms (on_record r alarms rest).alarms next
-    go (Recorded a past) f ih e = walked_more form image k place at alarms a past next (rest a past).alarms h (inverse form image b at f) (ih a past e)
-    go (NoRecord r) f ih e = let z : ◌≡◌ {A = ℕ} 0 1 = cc in absurd (omega arith)
+    })
+walked form image b n (suc k) place at alarms {s} h e =
+    let f = and-then-ok (record_at form image at) (λ r. records_from form image n k (place + 1) r.1 (set alarms place r.0)) e in
+    let a = f.value.0 in
+    let past = f.value.1 in
+    let rest = walked form image b n k (place + 1) past (set alarms place a) (simp length-set (omega arith)) f.follows in
+    walked_more form image k place at alarms a past s.next s.alarms h (inverse form image b at f.was) rest
 
 -- ---- a section
 
@@ -125,33 +114,26 @@ pub record SectionRead (form : Form) (image : List ℕ) (first at : ℕ) (alarms
   pub kept : take first filled ≡ take first alarms
   pub bytes : section_bytes form first n filled ≡ part image at (1 + size_of form * n)
 
-section-read : (form : Form) (image : List ℕ) → T (are_bytes image) → (first at : ℕ) (alarms : List Alarm) {n next : ℕ} → first + 12 ≤ length alarms
-    → (section_at form image first at alarms).section ≡ Read n next
-    → SectionRead form image first at alarms (section_at form image first at alarms).alarms n next
+section-read : (form : Form) (image : List ℕ) → T (are_bytes image) → (first at : ℕ) (alarms : List Alarm) {s : Section} → first + 12 ≤ length alarms
+    → section_at form image first at alarms ≡ Ok s → SectionRead form image first at alarms s.alarms s.count s.next
 unfolding section_at section_bytes
-section-read form image b first at alarms {n} {next} h e = go (count_at image at) refl e
-  where
-    rest : ℕ → ℕ → Filled
-    rest m past = records_from form image m m first past alarms
-
-    go : (c : Count) → count_at image at ≡ c → (on_count c alarms rest).section ≡ Read n next
-        → SectionRead form image first at alarms (on_count c alarms rest).alarms n next
-    go (Alarms m past) f e =
-        let c = count-read image at f in
-        let n≡ : n ≡ m = records-count form image m m first past alarms e in
-        let w = walked form image b m m first past alarms (omega (arith, c.most)) e in
-        subst (λ (j : ℕ). SectionRead form image first at alarms (rest m past).alarms j next) (sym n≡)
-        (record {
-          most = c.most;
-          past = omega (arith, w.past, c.past);
-          whole = w.whole (omega (arith, c.past, c.here));
-          long = w.long;
-          kept = w.kept;
-          bytes =
-              ap₂ (λ (x : ℕ) (l : List ℕ). x ∷ l) c.count (w.bytes ∙ rw (c.past, add-one))
-              ∙ sym (part-suc image at (size_of form * m) c.here) ∙ ap (part image at) (sym (one-add (size_of form * m)));
-        })
-    go (NoCount r) f e = let z : ◌≡◌ {A = ℕ} 0 1 = cc in absurd (omega arith)
+section-read form image b first at alarms {s} h e =
+    let f = and-then-ok (count_at image at) (λ c. records_from form image c.0 c.0 first c.1 alarms) e in
+    let n = f.value.0 in
+    let past = f.value.1 in
+    let c = count-read image at f.was in
+    let w = walked form image b n n first past alarms (omega (arith, c.most)) f.follows in
+    subst (λ (j : ℕ). SectionRead form image first at alarms s.alarms j s.next) (sym (records-count form image n n first past alarms f.follows))
+    (record {
+      most = c.most;
+      past = omega (arith, w.past, c.past);
+      whole = w.whole (omega (arith, c.past, c.here));
+      long = w.long;
+      kept = w.kept;
+      bytes =
+          ap₂ (λ (x : ℕ) (l : List ℕ). x ∷ l) c.count (w.bytes ∙ rw (c.past, add-one))
+          ∙ sym (part-suc image at (size_of form * n) c.here) ∙ ap (part image at) (sym (one-add (size_of form * n)));
+    })
 
 -- ---- an image
 
@@ -178,69 +160,45 @@ module _ (image : List ℕ) (b : T (are_bytes image)) where
             ∙ whole-image (1 + size_of DigitalForm * d) (1 + size_of AnalogForm * a) x.past y.past y.whole h;
       }
 
-  -- the analog section and the end
-  back-rest : (d next : ℕ) (alarms : List Alarm) → d ≤ 12 → SectionRead DigitalForm image 0 0 blanks alarms d next
-      → (rest_of image d next alarms).reply ≡ Accepted → RoundTrip image (rest_of image d next alarms).settings
-  unfolding rest_of blanks
-  back-rest d next alarms m x e = go filled.section refl e
-    where
-      filled : Filled
-      filled = section_at AnalogForm image d next alarms
-
-      read : ℕ → Loaded
-      read a = record { settings = record { counts = record { digital = d; analog = a }; alarms = filled.alarms }; reply = Accepted }
-
-      done : ℕ → ℕ → Loaded
-      done a end = cond (ltb end (length image)) (refused_by (refusal 6 end)) (read a)
-
-      ended : (a end : ℕ) (t : Bool) → ltb end (length image) ≡ t → filled.section ≡ Read a end
-          → (cond t (refused_by (refusal 6 end)) (read a)).reply ≡ Accepted → RoundTrip image (cond t (refused_by (refusal 6 end)) (read a)).settings
-      ended a end true f g e = let z : ◌≡◌ {A = ℕ} 0 1 = cc in absurd (omega arith)
-      ended a end false f g e =
-          back-sections d a next end alarms filled.alarms x
-          (section-read AnalogForm image b d next alarms (omega (arith, x.long)) g) (ltb-false end (length image) f)
-
-      go : (s : Section) → filled.section ≡ s → (on_section s done).reply ≡ Accepted → RoundTrip image (on_section s done).settings
-      go (Read a end) f e = ended a end (ltb end (length image)) refl f e
-      go (Refused r) f e = let z : ◌≡◌ {A = ℕ} 0 1 = cc in absurd (omega arith)
-
   -- an accepted image's length, and what is written back
-  pub accepted : (read_of image).reply ≡ Accepted → RoundTrip image (read_of image).settings
-  unfolding read_of blanks
-  accepted e = go filled.section refl e
-    where
-      filled : Filled
-      filled = section_at DigitalForm image 0 0 blanks
-
-      done : ℕ → ℕ → Loaded
-      done d next = rest_of image d next filled.alarms
-
-      go : (s : Section) → filled.section ≡ s → (on_section s done).reply ≡ Accepted → RoundTrip image (on_section s done).settings
-      go (Read d next) f e =
-          let x = section-read DigitalForm image b 0 0 blanks (omega arith) f in
-          back-rest d next filled.alarms x.most x e
-      go (Refused r) f e = let z : ◌≡◌ {A = ℕ} 0 1 = cc in absurd (omega arith)
+  pub accepted : {s : Settings} → read_of image ≡ Ok s → RoundTrip image s
+  unfolding read_of rest_of blanks
+  accepted e =
+      let f = and-then-ok (section_at DigitalForm image 0 0 blanks) (rest_of image) e in
+      let d = f.value in
+      let read : Section → Settings = λ a. record { counts = record { digital = d.count; analog = a.count }; alarms = a.alarms } in
+      let g = and-then-ok (section_at AnalogForm image d.count d.next d.alarms)
+      (λ a. cond (ltb a.next (length image)) (Err (refusal LeftOver a.next)) (Ok (read a))) f.follows in
+      let a = g.value in
+      let x = section-read DigitalForm image b 0 0 blanks (omega arith) f.was in
+      let y = section-read AnalogForm image b d.count d.next d.alarms (omega (arith, x.long, x.most)) g.was in
+      let end = spared (ltb a.next (length image)) (refusal LeftOver a.next) (read a) g.follows in
+      subst (RoundTrip image) end.1
+      (back-sections d.count a.count d.next a.next d.alarms a.alarms x y (ltb-false a.next (length image) end.0))
 
 -- ---- what follows for the calls
 
-module _ (image : List ℕ) (b : T (are_bytes image)) (e : (read_of image).reply ≡ Accepted) where
+module _ (image : List ℕ) (b : T (are_bytes image)) (e : is_ok (read_of image) ≡ true) where
   abbrev settings : Settings
-  settings = (read_of image).settings
+  settings = settings_of image
+
+  trip : RoundTrip image settings
+  trip = accepted image b (was-ok (read_of image) empty e)
 
   -- settings that are read are written back to the same bytes
   pub round_trip : image_of settings ≡ image
-  round_trip = (accepted image b e).back
+  round_trip = trip.back
 
   pub longest : length image ≤ 842
-  longest = let s = sound-settings image in omega (arith, (accepted image b e).size, s.most)
+  longest = let s = sound-settings image in omega (arith, trip.size, s.most)
 
   pub room-is : (n : ℕ) → has_room settings.counts n ≡ leb (length image) n
   unfolding has_room
-  room-is n = rw (good settings.counts (sound-settings image).most, ← (accepted image b e).size) refl
+  room-is n = rw (good settings.counts (sound-settings image).most, ← trip.size) refl
 
   -- a buffer that is long enough gets the image, and reading its front gives the same settings again
   pub written : (out : List ℕ) → length image ≤ length out
-      → (written_of settings (length out) ≡ Length (length image)) × (image_buffer settings out ≡ image ++ drop (length image) out)
+      → (written_of settings (length out) ≡ Ok (length image)) × (image_buffer settings out ≡ image ++ drop (length image) out)
   unfolding written_of image_buffer
   written out h =
       let t = room-is (length out) ∙ le-leb (length image) (length out) h in
@@ -251,7 +209,7 @@ module _ (image : List ℕ) (b : T (are_bytes image)) (e : (read_of image).reply
 
   -- a shorter one is refused and left as it was
   pub too_short : (out : List ℕ) → length out < length image
-      → (written_of settings (length out) ≡ TooShort (refusal 13 0)) × (image_buffer settings out ≡ out)
+      → (written_of settings (length out) ≡ Err (refusal ImageTooLong 0)) × (image_buffer settings out ≡ out)
   unfolding written_of image_buffer
   too_short out h =
       let t = room-is (length out) ∙ lt-leb (length image) (length out) h in

@@ -14,8 +14,7 @@ use layout::block::{counts_in, is_block};
 use layout::read::alarm_in;
 use layout::sizes::{ALARM_WORDS, SETTINGS_HEAD};
 use settings::counts::{Counts, MOST, are_good};
-use settings::refusals::{IMAGE_TOO_LONG, NO_BANK};
-use settings::reply::Refusal;
+use settings::refusals::{Reason, Refusal};
 use settings::types::{Alarm, Form, Kind, Limits, Severities};
 use settings_record::fields::{
     ANALOG_DURATION, ANALOG_SIZE, DEADBAND, DIGITAL_DURATION, DIGITAL_SIZE, LIMIT_H, LIMIT_HH,
@@ -30,13 +29,6 @@ const COUNTS: usize = 2;
 
 // Bytes of the longest image.
 pub const IMAGE_MOST: usize = COUNTS + MOST * (DIGITAL_SIZE + ANALOG_SIZE);
-
-// The length of the image that was written, or the refusal.
-#[derive(Clone, Copy)]
-pub enum Written {
-    Length(usize),
-    Refused(Refusal),
-}
 
 fn put_severities(out: &mut [u8], at: usize, s: Severities)
     requires { at + size_of Form.Analog ≤ length out.old }
@@ -186,17 +178,14 @@ fn has_room(counts: Counts, len: usize) -> bool
 }
 
 // Writes the image of the settings in a block.
-fn write_block(words: &[u64], out: &mut [u8]) -> Written
+fn write_block(words: &[u64], out: &mut [u8]) -> Result<usize, Refusal>
     requires { length words.now ≡ settings_size }
     ensures value { result ≡ written_of (settings_in words.now) (length out.old) }
     ensures out_after { out.new ≡ image_buffer (settings_in words.now) out.old }
 {
     let counts = counts_in(words);
     if !has_room(counts, out.len()) {
-        return Written::Refused(Refusal {
-            number: IMAGE_TOO_LONG,
-            place: 0,
-        });
+        return Err(Reason::ImageTooLong.at(0));
     }
     let next = put_section(out, 0, Form::Digital, 0, counts.digital, words);
     let length = put_section(
@@ -207,19 +196,16 @@ fn write_block(words: &[u64], out: &mut [u8]) -> Written
         counts.analog,
         words,
     );
-    Written::Length(length)
+    Ok(length)
 }
 
-// Fills the front of `out` with the image of a bank's settings and leaves the rest, or refuses and leaves every byte.
-pub fn write(words: &[u64], out: &mut [u8]) -> Written
+// Fills the front of `out` with the image of a bank's settings, answers its length and leaves the rest, or refuses and leaves every byte.
+pub fn write(words: &[u64], out: &mut [u8]) -> Result<usize, Refusal>
     ensures value { result ≡ write_of words.now (length out.old) }
     ensures out_after { out.new ≡ write_buffer words.now out.old }
 {
     if !is_block(words) {
-        return Written::Refused(Refusal {
-            number: NO_BANK,
-            place: 0,
-        });
+        return Err(Reason::NoBank.at(0));
     }
     write_block(words, out)
 }

@@ -6,7 +6,7 @@ use lib.ListN.{get_or, replicate}
 use Rattle.wire.specs.Number.{bytes}
 use Rattle.wire.specs.Internal.Words.{words}
 use Rattle.event.specs.Event.{Event}
-use Rattle.reader.specs.Read.{read_of}
+use Rattle.reader.specs.Read.{settings_of}
 use Rattle.report.specs.Empty.{no_status}
 use Rattle.report.specs.declared.status.Status.{Status}
 use Rattle.report.specs.declared.report.AlarmReport.{AlarmReport}
@@ -51,11 +51,11 @@ calls records = map (λ rec. scan rec (replicate 64 0)) records
 
 -- the event buffer of `room` zero bytes after the next record, when these were handed in before it
 abbrev pub written : List ℕ → List (List ℕ) → List ℕ → ℕ → List ℕ
-written image records rec room = buffer_after (read_of image).settings (accepted (read_of image).settings (calls records) []) rec (replicate room 0)
+written image records rec room = buffer_after (settings_of image) (accepted (settings_of image) (calls records) []) rec (replicate room 0)
 
 -- the report of alarm 1 after these records, and of its condition at a place
 abbrev pub report : List ℕ → List (List ℕ) → AlarmReport
-report image records = report_after (read_of image).settings (accepted (read_of image).settings (calls records) []) 1
+report image records = report_after (settings_of image) (accepted (settings_of image) (calls records) []) 1
 
 abbrev pub status : List ℕ → List (List ℕ) → ℕ → Status
 status image records place = get_or (report image records).conditions place no_status

@@ -11,7 +11,7 @@ use crate::run::run_input;
 use crate::show::add_refused_line;
 use bank::load::load;
 use layout::sizes::{MARKS_WORDS, SETTINGS_WORDS, STATES_WORDS};
-use settings::reply::Reply;
+use settings::refusals::Refusal;
 use text::input::{BLOCK_SIZE, part};
 use text::output::{TEXT_SIZE, flush};
 
@@ -22,7 +22,7 @@ fn load_bank(
     marks: &mut [u64; MARKS_WORDS],
     block: &[u8; BLOCK_SIZE],
     length: usize,
-) -> Reply {
+) -> Result<(), Refusal> {
     let image = part(block, 0, length);
     load(image, settings, states, marks)
 }
@@ -35,7 +35,7 @@ fn main(rt: HostRuntime) {
     let mut marks = [0u64; MARKS_WORDS];
     let length = read_image(&rt, "bank.set", &mut block, &text);
     match load_bank(&mut settings, &mut states, &mut marks, &block, length) {
-        Reply::Accepted => run_input(
+        Ok(()) => run_input(
             &rt,
             &settings,
             &mut states,
@@ -44,7 +44,7 @@ fn main(rt: HostRuntime) {
             &mut text,
             &mut rt.stdin(),
         ),
-        Reply::Refused(refusal) => {
+        Err(refusal) => {
             let waiting = add_refused_line(&rt, &mut text, 0, refusal);
             flush(&rt, &text, waiting);
         }

@@ -5,10 +5,9 @@ use bank_text::answers::{add_conditions, add_refused};
 use event::write::EVENT_SIZE;
 use layout::block::counts_in;
 use layout::sizes::{MARKS_WORDS, SETTINGS_WORDS, STATES_WORDS};
-use report::report::{AlarmReport, report};
-use scan::answer::Answer;
+use report::report::report;
 use settings::counts::ALARMS;
-use settings::reply::{Refusal, Reply};
+use settings::refusals::Refusal;
 use text::output::{TEXT_SIZE, add_byte};
 use text::show::add_form;
 use wire::number::{get_u16, get_u64};
@@ -72,21 +71,12 @@ pub fn add_answer(
     rt: &(impl Print + Eprint),
     text: &mut [u8; TEXT_SIZE],
     waiting: usize,
-    answer: Answer,
+    answer: Result<usize, Refusal>,
     events: &[u8],
 ) -> usize {
     match answer {
-        Answer::Events(number) => add_events(rt, text, waiting, events, number),
-        Answer::Refused(refusal) => add_refused_line(rt, text, waiting, refusal),
-    }
-}
-
-// Whether there is an alarm that a report is of.
-fn is_found(found: AlarmReport) -> bool {
-    let reply = found.reply;
-    match reply {
-        Reply::Accepted => true,
-        _ => false,
+        Ok(number) => add_events(rt, text, waiting, events, number),
+        Err(refusal) => add_refused_line(rt, text, waiting, refusal),
     }
 }
 
@@ -102,7 +92,7 @@ fn add_alarm(
     n: usize,
 ) -> usize {
     let found = report(settings, states, marks, n);
-    if !is_found(found) {
+    if found.reply.is_err() {
         return waiting;
     }
     let counts = counts_in(settings);

@@ -1,14 +1,10 @@
 // What a call answers: the number of a refusal as the result, and words.
-ghost use Rattle.std.specs.Prelude.{◌≡◌, [], ◌∷◌, ◌≤◌, length};
-ghost use Rattle.std.proofs.lemmas.List.Edits.{sets};
-ghost use Rattle.meifgur_c.specs.Calls.{reply_number, reply_words, load_fields, scan_number, scan_answer, write_number, write_answer, replay_answer};
+ghost use Rattle.std.specs.Prelude.{◌≡◌};
+ghost use Rattle.meifgur_c.specs.Calls.{number_in, reply_words, counted_words, load_words, replay_words};
 
-use host_bytes::answer::{put_five, put_four, put_three, put_two};
-use image::write::Written;
-use replay::replay::Replayed;
-use scan::answer::Answer;
+use replay::replay::Tally;
 use settings::counts::Counts;
-use settings::reply::Reply;
+use settings::refusals::Refusal;
 
 // The answer has fewer words than the call fills.
 pub const SHORT_ANSWER: u32 = 40;
@@ -27,100 +23,76 @@ pub const WRITE_ANSWER: usize = 3;
 
 pub const REPLAY_ANSWER: usize = 5;
 
-// Number and place.
-pub fn put_reply(words: &mut [u64], reply: Reply) -> u32
-    requires { 2 ≤ length words.old }
-    ensures value { result ≡ reply_number reply }
-    ensures words_after { words.new ≡ sets words.old 0 (reply_words reply) }
-{
-    match reply {
-        Reply::Accepted => {
-            put_two(words, 0, 0);
-            0
-        }
-        Reply::Refused(refusal) => {
-            put_two(words, refusal.number as u64, refusal.place as u64);
-            refusal.number
-        }
-    }
-}
-
-// Number and place, and how many alarms there are of each kind.
-pub fn put_loaded(words: &mut [u64], reply: Reply, counts: Counts) -> u32
-    requires { 4 ≤ length words.old }
-    ensures value { result ≡ reply_number reply }
-    ensures words_after { words.new ≡ sets words.old 0 (load_fields reply counts) }
-{
-    match reply {
-        Reply::Accepted => {
-            put_four(words, 0, 0, counts.digital as u64, counts.analog as u64);
-            0
-        }
-        Reply::Refused(refusal) => {
-            put_four(words, refusal.number as u64, refusal.place as u64, 0, 0);
-            refusal.number
-        }
-    }
-}
-
-// Number and place, and how many events there are.
-pub fn put_scanned(words: &mut [u64], answer: Answer) -> u32
-    requires { 3 ≤ length words.old }
-    ensures value { result ≡ scan_number answer }
-    ensures words_after { words.new ≡ sets words.old 0 (scan_answer answer) }
+// The number of a refusal, or 0.
+pub fn number_in<T: Copy>(answer: Result<T, Refusal>) -> u32
+    ensures { result ≡ number_in answer }
 {
     match answer {
-        Answer::Events(number) => {
-            put_three(words, 0, 0, number as u64);
-            0
-        }
-        Answer::Refused(refusal) => {
-            put_three(words, refusal.number as u64, refusal.place as u64, 0);
-            refusal.number
-        }
+        Ok(_) => 0,
+        Err(refusal) => refusal.reason.number(),
     }
 }
 
-// Number and place, and how long the image is.
-pub fn put_written(words: &mut [u64], written: Written) -> u32
-    requires { 3 ≤ length words.old }
-    ensures value { result ≡ write_number written }
-    ensures words_after { words.new ≡ sets words.old 0 (write_answer written) }
+// Number and place of a refusal, or 0 and 0.
+pub fn reply_words(reply: Result<(), Refusal>) -> [u64; REPORT_ANSWER]
+    ensures { result ≡ reply_words reply }
 {
-    match written {
-        Written::Length(length) => {
-            put_three(words, 0, 0, length as u64);
-            0
-        }
-        Written::Refused(refusal) => {
-            put_three(words, refusal.number as u64, refusal.place as u64, 0);
-            refusal.number
-        }
+    match reply {
+        Ok(()) => [0, 0],
+        Err(refusal) => [u64::from(refusal.reason.number()), refusal.place as u64],
+    }
+}
+
+// The same, and how many alarms there are of each kind.
+pub fn load_words(reply: Result<(), Refusal>, counts: Counts) -> [u64; LOAD_ANSWER]
+    ensures { result ≡ load_words reply counts }
+{
+    match reply {
+        Ok(()) => [0, 0, counts.digital as u64, counts.analog as u64],
+        Err(refusal) => [
+            u64::from(refusal.reason.number()),
+            refusal.place as u64,
+            0,
+            0,
+        ],
+    }
+}
+
+// The same, and how many events there are, or how long an image is.
+pub fn counted_words(answer: Result<usize, Refusal>) -> [u64; SCAN_ANSWER]
+    ensures { result ≡ counted_words answer }
+{
+    match answer {
+        Ok(number) => [0, 0, number as u64],
+        Err(refusal) => [u64::from(refusal.reason.number()), refusal.place as u64, 0],
     }
 }
 
 // How many events and refusals there are, and number, place and index of the first refusal. Words that are no bank are it.
-pub fn put_replayed(words: &mut [u64], done: Replayed) -> u32
-    requires { 5 ≤ length words.old }
-    ensures value { result ≡ reply_number done.reply }
-    ensures words_after { words.new ≡ sets words.old 0 (replay_answer done) }
+pub fn replay_words(answer: Result<Tally, Refusal>) -> [u64; REPLAY_ANSWER]
+    ensures { result ≡ replay_words answer }
 {
-    let reply = done.reply;
-    match reply {
-        Reply::Accepted => {
-            put_five(
-                words,
-                done.events as u64,
-                done.refused as u64,
-                done.number as u64,
-                done.place as u64,
-                done.index as u64,
-            );
-            0
+    match answer {
+        Ok(done) => {
+            let events = done.events as u64;
+            let refused = done.refused as u64;
+            match done.first {
+                None => [events, refused, 0, 0, 0],
+                Some(first) => [
+                    events,
+                    refused,
+                    u64::from(first.refusal.reason.number()),
+                    first.refusal.place as u64,
+                    first.index as u64,
+                ],
+            }
         }
-        Reply::Refused(refusal) => {
-            put_five(words, 0, 0, refusal.number as u64, refusal.place as u64, 0);
-            refusal.number
-        }
+        Err(refusal) => [
+            0,
+            0,
+            u64::from(refusal.reason.number()),
+            refusal.place as u64,
+            0,
+        ],
     }
 }

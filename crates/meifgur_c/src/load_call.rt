@@ -4,10 +4,11 @@ ghost use Rattle.std.proofs.lemmas.List.Edits.{sets};
 ghost use Rattle.layout.specs.Internal.Block.{counts_in};
 ghost use Rattle.bank.specs.Internal.Words.{words_in};
 ghost use Rattle.bank.specs.Internal.Load.{load_reply, load_words};
-ghost use Rattle.meifgur_c.specs.Calls.{unless, short_answer, reply_number, load_answer};
+ghost use Rattle.meifgur_c.specs.Calls.{unless, short_answer, number_in, load_answer};
 
-use crate::answers::{LOAD_ANSWER, SHORT_ANSWER, put_loaded};
+use crate::answers::{LOAD_ANSWER, SHORT_ANSWER, load_words, number_in};
 use bank::load::load;
+use host_bytes::answer::put_words;
 use layout::sizes::{ANALOG_COUNT, DIGITAL_COUNT};
 use settings::counts::Counts;
 
@@ -38,7 +39,7 @@ pub extern "C" fn meifgur_load_words(
     answer: &mut [u64],
 ) -> u32
     ensures value { result ≡ unless (short_answer 4 answer.old) 40
-        (reply_number (load_reply (words_in settings.old states.old marks.old) image.now)) }
+        (number_in (load_reply (words_in settings.old states.old marks.old) image.now)) }
     ensures settings_after { settings.new ≡ unless (short_answer 4 answer.old) settings.old
         (load_words (words_in settings.old states.old marks.old) image.now).settings }
     ensures states_after { states.new ≡ unless (short_answer 4 answer.old) states.old
@@ -54,5 +55,6 @@ pub extern "C" fn meifgur_load_words(
     }
     let reply = load(image, settings, states, marks);
     let counts = counts_of(settings);
-    put_loaded(answer, reply, counts)
+    put_words(answer, &load_words(reply, counts));
+    number_in(reply)
 }

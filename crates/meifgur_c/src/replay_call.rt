@@ -3,9 +3,10 @@ ghost use Rattle.std.specs.Prelude.{◌≡◌, length};
 ghost use Rattle.std.proofs.lemmas.List.Edits.{sets};
 ghost use Rattle.bank.specs.Internal.Words.{words_in};
 ghost use Rattle.replay.specs.Replay.{replayed_of, replayed_words, replayed_buffer};
-ghost use Rattle.meifgur_c.specs.Calls.{unless, short_answer, reply_number, replay_answer};
+ghost use Rattle.meifgur_c.specs.Calls.{unless, short_answer, number_in, replay_words};
 
-use crate::answers::{REPLAY_ANSWER, SHORT_ANSWER, put_replayed};
+use crate::answers::{REPLAY_ANSWER, SHORT_ANSWER, number_in, replay_words};
+use host_bytes::answer::put_words;
 use replay::replay::replay;
 
 // Runs each record of `records` as a scan of its own and passes over those that are refused; the events stand one after the
@@ -19,8 +20,8 @@ pub extern "C" fn meifgur_replay_words(
     events: &mut [u8],
     answer: &mut [u64],
 ) -> u32
-    ensures value { result ≡ unless (short_answer 5 answer.old) 40 (reply_number
-        (replayed_of (words_in settings.now states.old marks.old) records.now events.old).reply) }
+    ensures value { result ≡ unless (short_answer 5 answer.old) 40 (number_in
+        (replayed_of (words_in settings.now states.old marks.old) records.now events.old)) }
     ensures states_after { states.new ≡ unless (short_answer 5 answer.old) states.old
         (replayed_words (words_in settings.now states.old marks.old) records.now events.old).states }
     ensures marks_after { marks.new ≡ unless (short_answer 5 answer.old) marks.old
@@ -28,12 +29,13 @@ pub extern "C" fn meifgur_replay_words(
     ensures events_after { events.new ≡ unless (short_answer 5 answer.old) events.old
         (replayed_buffer (words_in settings.now states.old marks.old) records.now events.old) }
     ensures answer_after { answer.new ≡ unless (short_answer 5 answer.old) answer.old (sets answer.old 0
-        (replay_answer
+        (replay_words
         (replayed_of (words_in settings.now states.old marks.old) records.now events.old))) }
 {
     if answer.len() < REPLAY_ANSWER {
         return SHORT_ANSWER;
     }
     let done = replay(settings, states, marks, records, events);
-    put_replayed(answer, done)
+    put_words(answer, &replay_words(done));
+    number_in(done)
 }

@@ -3,22 +3,20 @@ ghost use Rattle.std.specs.Prelude.{◌≡◌, ◌||◌, [], ◌≤◌, ltb, len
 ghost use Rattle.std.proofs.lemmas.List.Edits.{sets};
 ghost use Rattle.bank.specs.Internal.Words.{words_in};
 ghost use Rattle.report.specs.Internal.Report.{report_in};
-ghost use Rattle.meifgur_c.specs.Calls.{unless, short_answer, reply_number, reply_words, report_code, report_out};
+ghost use Rattle.meifgur_c.specs.Calls.{unless, short_answer, reply_words, report_code, report_out};
 
-use crate::answers::{REPORT_ANSWER, SHORT_ANSWER, SHORT_REPORT, put_reply};
+use crate::answers::{REPORT_ANSWER, SHORT_ANSWER, SHORT_REPORT, number_in, reply_words};
+use host_bytes::answer::put_words;
 use host_bytes::rows::{REPORT_SIZE, put_report};
 use report::report::{AlarmReport, report};
-use settings::reply::Reply;
 
 // Writes an accepted report; a refused one leaves every byte.
 fn put_said(out: &mut [u8], said: AlarmReport)
     requires { 224 ≤ length out.old }
     ensures { out.new ≡ report_out said out.old }
 {
-    let reply = said.reply;
-    match reply {
-        Reply::Accepted => put_report(out, 0, said),
-        Reply::Refused(_) => {}
+    if said.reply.is_ok() {
+        put_report(out, 0, said);
     }
 }
 
@@ -48,5 +46,6 @@ pub extern "C" fn meifgur_report_words(
     let said = report(settings, states, marks, alarm);
     let reply = said.reply;
     put_said(out, said);
-    put_reply(answer, reply)
+    put_words(answer, &reply_words(reply));
+    number_in(reply)
 }

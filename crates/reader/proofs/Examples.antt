@@ -9,27 +9,30 @@ use Rattle.settings.specs.Refusals.{refusal, checked}
 use Rattle.reader.specs.Count.{count_at}
 use Rattle.settings_record.specs.Record.{record_at, fields_at}
 use Rattle.reader.specs.Section.{section_at, records_from}
-use Rattle.reader.specs.Read.{read_of, rest_of}
+use Rattle.reader.specs.Read.{read_of, rest_of, settings_of}
 use Rattle.settings.specs.declared.types.Kind.TheVariants.{Digital}
-use Rattle.settings.specs.declared.reply.Reply.TheVariants.{Accepted, Refused}
+use Rattle.settings.specs.declared.refusals.Reason.TheVariants.{Incomplete}
+use Rattle.std.proofs.Common.{Ok, Err}
+use Rattle.std.specs.Result.{is_ok}
+use mathlib.Core.Bool.{true}
 
 -- one digital alarm: Condition, AckRequired and Latched set, Severity 700, MinDuration 100
 sample : List ℕ
 sample = 0x01 ∷ 0x07 ∷ 0xBC ∷ 0x02 ∷ 0x00 ∷ 0x00 ∷ 0x64 ∷ 0x00 ∷ 0x00 ∷ 0x00 ∷ 0x00 ∷ []
 
-sample-reply : (read_of sample).reply ≡ Accepted
+sample-reply : is_ok (read_of sample) ≡ true
 unfolding sample read_of rest_of section_at records_from record_at checked fields_at count_at value blanks
 sample-reply = refl
 
-sample-alarm : get_or (read_of sample).settings.alarms 0 blank ≡ record { flags = 7; duration = 100; kind = Digital 700 }
+sample-alarm : get_or (settings_of sample).alarms 0 blank ≡ record { flags = 7; duration = 100; kind = Digital 700 }
 unfolding sample read_of rest_of section_at records_from record_at checked fields_at count_at value blanks
 sample-alarm = refl
 
-no_bytes : (read_of []).reply ≡ Refused (refusal 1 0)
+no_bytes : read_of [] ≡ Err (refusal Incomplete 0)
 unfolding read_of section_at count_at
 no_bytes = refl
 
 -- two zero bytes are a bank without alarms
-zeros : read_of (0 ∷ 0 ∷ []) ≡ record { settings = empty; reply = Accepted }
+zeros : read_of (0 ∷ 0 ∷ []) ≡ Ok empty
 unfolding read_of rest_of section_at records_from count_at empty
 zeros = refl

@@ -10,27 +10,24 @@ use borrow.Author.Tests.{lt-ltb, le-ltb}
 use lib.Dec.{ltb}
 use lib.ListN.{length, get_or, set, length-set, length-replicate, replicate}
 use lib.Seq.{get_or-set_same, get_or-set_other}
+use Rattle.std.proofs.Common.{Result, Ok, Err}
+use Rattle.std.specs.Result.{result_unwrap_or}
+use Rattle.settings.proofs.Followed.{ok-same, and-then-ok, spared}
 use Rattle.settings.specs.Counts.{in_all, form_at}
 use Rattle.settings.specs.Alarm.{blank, blanks, empty}
 use Rattle.settings.specs.Internal.Few.{Few}
 use Rattle.settings.specs.Refusals.{refusal}
+use Rattle.settings.specs.declared.refusals.Refusal.{Refusal}
+use Rattle.settings.specs.declared.refusals.Reason.TheVariants.{LeftOver}
 use Rattle.settings.specs.declared.types.Alarm.{Alarm}
 use Rattle.settings.specs.declared.types.Form.{Form}
 use Rattle.settings.specs.declared.types.Form.TheVariants.{Digital, Analog}
 use Rattle.settings.specs.declared.types.Settings.{Settings}
-use Rattle.settings.specs.declared.reply.Reply.TheVariants.{Accepted}
 use Rattle.settings_record.specs.Record.{record_at}
-use Rattle.settings_record.specs.declared.record.Record.{Record}
-use Rattle.settings_record.specs.declared.record.Record.TheVariants.{Alarm as Recorded, Refused as NoRecord}
 use Rattle.reader.specs.Count.{count_at}
-use Rattle.reader.specs.Section.{records_from, section_at, on_record, on_count}
-use Rattle.reader.specs.Read.{read_of, rest_of, on_section, refused_by}
-use Rattle.reader.specs.declared.count.Count.{Count}
-use Rattle.reader.specs.declared.count.Count.TheVariants.{Alarms, Refused as NoCount}
-use Rattle.reader.specs.declared.section.Filled.{Filled}
+use Rattle.reader.specs.Section.{records_from, section_at}
+use Rattle.reader.specs.Read.{read_of, rest_of, settings_of}
 use Rattle.reader.specs.declared.section.Section.{Section}
-use Rattle.reader.specs.declared.section.Section.TheVariants.{Read, Refused}
-use Rattle.reader.specs.declared.read.Loaded.{Loaded}
 use Rattle.reader.proofs.Sections.{count-read, records-count}
 
 -- n places from `place` on hold alarms with a property; the others are as before
@@ -50,7 +47,7 @@ pub record Settled (P : Form → Alarm → Type 0) (s : Settings) : Type 0 where
 -- ---- a section
 
 module _ (form : Form) (image : List ℕ) (P : Alarm → Type 0)
-    (each : (at : ℕ) (a : Alarm) (next : ℕ) → record_at form image at ≡ Recorded a next → P a) where
+    (each : (at : ℕ) (a : Alarm) (next : ℕ) → record_at form image at ≡ Ok (a, next) → P a) where
   more : (k place : ℕ) (alarms filled : List Alarm) (a : Alarm) → place + suc k ≤ length alarms → P a
       → Filling P k (place + 1) (set alarms place a) filled → Filling P (suc k) place alarms filled
   more k place alarms filled a h p f =
@@ -68,41 +65,27 @@ module _ (form : Form) (image : List ℕ) (P : Alarm → Type 0)
           let e = f.front place (omega arith) ∙ get_or-set_same alarms place a blank (omega arith) in
           subst P (sym (ap (λ (j : ℕ). get_or filled j blank) i≡ ∙ e)) p
 
-  filling : (n k place at : ℕ) (alarms : List Alarm) {m next : ℕ} → place + k ≤ length alarms
-      → (records_from form image n k place at alarms).section ≡ Read m next
-      → Filling P k place alarms (records_from form image n k place at alarms).alarms
+  filling : (n k place at : ℕ) (alarms : List Alarm) {s : Section} → place + k ≤ length alarms
+      → records_from form image n k place at alarms ≡ Ok s → Filling P k place alarms s.alarms
   unfolding records_from
   filling n zero place at alarms h e =
-      record { long = refl; read = λ i l m. absurd (omega arith); front = λ i m. refl; behind = λ i m. refl }
-  filling n (suc k) place at alarms {m} {next} h e =
-      go (record_at form image at) refl (λ a past q. filling n k (place + 1) past (set alarms place a) (simp length-set (omega arith)) q) e
-    where
-      rest : Alarm → ℕ → Filled
-      rest a past = records_from form image n k (place + 1) past (set alarms place a)
+      subst (λ (s : Section). Filling P 0 place alarms s.alarms) (ok-same e)
+      (record { long = refl; read = λ i l m. absurd (omega arith); front = λ i m. refl; behind = λ i m. refl })
+  filling n (suc k) place at alarms {s} h e =
+      let f = and-then-ok (record_at form image at) (λ r. records_from form image n k (place + 1) r.1 (set alarms place r.0)) e in
+      let a = f.value.0 in
+      let rest = filling n k (place + 1) f.value.1 (set alarms place a) (simp length-set (omega arith)) f.follows in
+      more k place alarms s.alarms a h (each at a f.value.1 f.was) rest
 
-      go : (r : Record) → record_at form image at ≡ r
-          → ((a : Alarm) (past : ℕ) → (rest a past).section ≡ Read m next → Filling P k (place + 1) (set alarms place a) (rest a past).alarms)
-          → (on_record r alarms rest).section ≡ Read m next → Filling P (suc k) place alarms (on_record r alarms rest).alarms
-      go (Recorded a past) f ih e = more k place alarms (rest a past).alarms a h (each at a past f) (ih a past e)
-      go (NoRecord r) f ih e = let z : ◌≡◌ {A = ℕ} 0 1 = cc in absurd (omega arith)
-
-  section-filling : (first at : ℕ) (alarms : List Alarm) {n next : ℕ} → first + 12 ≤ length alarms
-      → (section_at form image first at alarms).section ≡ Read n next
-      → (n ≤ 12) × Filling P n first alarms (section_at form image first at alarms).alarms
+  section-filling : (first at : ℕ) (alarms : List Alarm) {s : Section} → first + 12 ≤ length alarms
+      → section_at form image first at alarms ≡ Ok s → (s.count ≤ 12) × Filling P s.count first alarms s.alarms
   unfolding section_at
-  section-filling first at alarms {n} {next} h e = go (count_at image at) refl e
-    where
-      rest : ℕ → ℕ → Filled
-      rest m past = records_from form image m m first past alarms
-
-      go : (c : Count) → count_at image at ≡ c → (on_count c alarms rest).section ≡ Read n next
-          → (n ≤ 12) × Filling P n first alarms (on_count c alarms rest).alarms
-      go (Alarms m past) f e =
-          let c = count-read image at f in
-          let n≡ : n ≡ m = records-count form image m m first past alarms e in
-          subst (λ (j : ℕ). (j ≤ 12) × Filling P j first alarms (rest m past).alarms) (sym n≡)
-          (c.most, filling m m first past alarms (omega (arith, c.most)) e)
-      go (NoCount r) f e = let z : ◌≡◌ {A = ℕ} 0 1 = cc in absurd (omega arith)
+  section-filling first at alarms {s} h e =
+      let f = and-then-ok (count_at image at) (λ c. records_from form image c.0 c.0 first c.1 alarms) e in
+      let n = f.value.0 in
+      let most = (count-read image at f.was).most in
+      subst (λ (j : ℕ). (j ≤ 12) × Filling P j first alarms s.alarms) (sym (records-count form image n n first f.value.1 alarms f.follows))
+      (most, filling n n first f.value.1 alarms (omega arith) f.follows)
 
 -- ---- the whole image
 
@@ -112,7 +95,7 @@ blank-at (suc n) zero = refl
 blank-at (suc n) (suc i) = blank-at n i
 
 module _ (image : List ℕ) (P : Form → Alarm → Type 0)
-    (each : (form : Form) (at : ℕ) (a : Alarm) (next : ℕ) → record_at form image at ≡ Recorded a next → P form a) where
+    (each : (form : Form) (at : ℕ) (a : Alarm) (next : ℕ) → record_at form image at ≡ Ok (a, next) → P form a) where
   settled-none : Settled P empty
   unfolding empty blanks
   settled-none =
@@ -141,36 +124,24 @@ module _ (image : List ℕ) (P : Form → Alarm → Type 0)
           let k = lt_of_not-le l in
           rw (lt-ltb i d k) (subst (P Digital) (sym (y.front i k)) (x.read i (omega arith) (omega arith)))
 
-  settled-rest : (d next : ℕ) (alarms : List Alarm) → d ≤ 12 → Filling (P Digital) d 0 blanks alarms → Settled P (rest_of image d next alarms).settings
-  unfolding rest_of blanks
-  settled-rest d next alarms m x = go filled.section refl
-    where
-      filled : Filled
-      filled = section_at Analog image d next alarms
-
-      read : ℕ → Loaded
-      read a = record { settings = record { counts = record { digital = d; analog = a }; alarms = filled.alarms }; reply = Accepted }
-
-      ended : (a end : ℕ) (t : Bool) → filled.section ≡ Read a end → Settled P (cond t (refused_by (refusal 6 end)) (read a)).settings
-      ended a end true f = settled-none
-      ended a end false f =
-          let y = section-filling Analog image (P Analog) (each Analog) d next alarms (omega (arith, x.long, length-replicate 24 blank)) f in
-          settled-both d a alarms filled.alarms m x y.0 y.1
-
-      go : (s : Section) → filled.section ≡ s → Settled P (on_section s (λ a end. cond (ltb end (length image)) (refused_by (refusal 6 end)) (read a))).settings
-      go (Read a end) f = ended a end (ltb end (length image)) f
-      go (Refused r) f = settled-none
+  settled-read : {s : Settings} → read_of image ≡ Ok s → Settled P s
+  unfolding read_of rest_of blanks
+  settled-read e =
+      let f = and-then-ok (section_at Digital image 0 0 blanks) (rest_of image) e in
+      let d = f.value in
+      let read : Section → Settings = λ a. record { counts = record { digital = d.count; analog = a.count }; alarms = a.alarms } in
+      let g = and-then-ok (section_at Analog image d.count d.next d.alarms)
+      (λ a. cond (ltb a.next (length image)) (Err (refusal LeftOver a.next)) (Ok (read a))) f.follows in
+      let a = g.value in
+      let x = section-filling Digital image (P Digital) (each Digital) 0 0 blanks (omega (arith, length-replicate 24 blank)) f.was in
+      let y = section-filling Analog image (P Analog) (each Analog) d.count d.next d.alarms (omega (arith, x.0, x.1.long, length-replicate 24 blank)) g.was in
+      subst (Settled P) (spared (ltb a.next (length image)) (refusal LeftOver a.next) (read a) g.follows).1
+      (settled-both d.count a.count d.alarms a.alarms x.0 x.1 y.0 y.1)
 
   -- what every record gives holds of the settings; refused ones have no alarms
-  pub settled : Settled P (read_of image).settings
-  unfolding read_of blanks
-  settled = go filled.section refl
+  pub settled : Settled P (settings_of image)
+  settled = go (read_of image) refl
     where
-      filled : Filled
-      filled = section_at Digital image 0 0 blanks
-
-      go : (s : Section) → filled.section ≡ s → Settled P (on_section s (λ d next. rest_of image d next filled.alarms)).settings
-      go (Read d next) f =
-          let x = section-filling Digital image (P Digital) (each Digital) 0 0 blanks (omega (arith, length-replicate 24 blank)) f in
-          settled-rest d next filled.alarms x.0 x.1
-      go (Refused r) f = settled-none
+      go : (r : Result Settings Refusal) → read_of image ≡ r → Settled P (result_unwrap_or r empty)
+      go (Ok s) e = settled-read e
+      go (Err r) e = settled-none

@@ -3,32 +3,19 @@ ghost use Rattle.std.specs.Prelude.{◌≡◌};
 ghost use Rattle.reader.specs.Count.{count_at};
 
 use settings::counts::MOST;
-use settings::refusals::{INCOMPLETE, TOO_MANY};
-use settings::reply::Refusal;
+use settings::refusals::{Reason, Refusal};
 
 // How many alarms a section has and where its first record begins, or the refusal.
-#[derive(Clone, Copy)]
-pub enum Count {
-    Alarms(usize, usize),
-    Refused(Refusal),
-}
-
-pub fn count_at(image: &[u8], at: usize) -> Count
+pub fn count_at(image: &[u8], at: usize) -> Result<(usize, usize), Refusal>
     ensures { result ≡ count_at image.now at }
 {
     if image.len() <= at {
-        return Count::Refused(Refusal {
-            number: INCOMPLETE,
-            place: at,
-        });
+        return Err(Reason::Incomplete.at(at));
     }
-    let n = image[at] as usize;
+    let n = usize::from(image[at]);
     if n <= MOST {
-        Count::Alarms(n, at + 1)
+        Ok((n, at + 1))
     } else {
-        Count::Refused(Refusal {
-            number: TOO_MANY,
-            place: at,
-        })
+        Err(Reason::TooMany.at(at))
     }
 }

@@ -3,27 +3,21 @@ ghost use Rattle.std.specs.Prelude.{◌≡◌, ◌+◌, ◌-◌, ◌≤◌};
 ghost use Rattle.settings.specs.Counts.{all_most};
 ghost use Rattle.reader.specs.Section.{records_from, section_at};
 
-use crate::count::{Count, count_at};
+use crate::count::count_at;
 use settings::counts::ALARMS;
-use settings::reply::Refusal;
+use settings::refusals::Refusal;
 use settings::types::{Alarm, Form};
-use settings_record::record::{Record, record_at};
+use settings_record::record::record_at;
 
-// How many alarms the section has and the offset past it, or the first refusal in it.
+// The alarms with those that were read in their places, how many these are, and the offset past the section.
 #[derive(Clone, Copy)]
-pub enum Section {
-    Read(usize, usize),
-    Refused(Refusal),
-}
-
-// A section's answer, and the alarms with those that were read in their places.
-#[derive(Clone, Copy)]
-pub struct Filled {
+pub struct Section {
     pub alarms: [Alarm; ALARMS],
-    pub section: Section,
+    pub count: usize,
+    pub next: usize,
 }
 
-// Reads the records of the alarms from place `first` to before `end`.
+// Reads the records of the alarms from place `first` to before `end`, or answers the first refusal.
 fn records(
     image: &[u8],
     at: usize,
@@ -31,28 +25,24 @@ fn records(
     first: usize,
     end: usize,
     given: [Alarm; ALARMS],
-) -> Filled
+) -> Result<Section, Refusal>
     requires first_le_end { first ≤ end }
     requires end_le_all_most { end ≤ all_most }
     ensures { result ≡ records_from form image.now (end - first) (end - first) first at given }
 {
     let mut alarms = given;
-    let mut place = first;
     let mut next = at;
-    let section = loop {
-        if place == end {
-            break Section::Read(end - first, next);
-        }
-        match record_at(image, next, form) {
-            Record::Refused(refusal) => break Section::Refused(refusal),
-            Record::Alarm(alarm, past) => {
-                alarms[place] = alarm;
-                place += 1;
-                next = past;
-            }
-        }
-    };
-    Filled { alarms, section }
+    for place in first..end {
+        let (alarm, past) = record_at(image, next, form)?;
+        alarms[place] = alarm;
+        next = past;
+    }
+    let count = end - first;
+    Ok(Section {
+        alarms,
+        count,
+        next,
+    })
 }
 
 // Reads a section whose first alarm has the place `first`.
@@ -62,15 +52,10 @@ pub fn section_at(
     form: Form,
     first: usize,
     given: [Alarm; ALARMS],
-) -> Filled
+) -> Result<Section, Refusal>
     requires { first ≤ 12 }
     ensures { result ≡ section_at form image.now first at given }
 {
-    match count_at(image, at) {
-        Count::Refused(refusal) => Filled {
-            alarms: given,
-            section: Section::Refused(refusal),
-        },
-        Count::Alarms(n, next) => records(image, next, form, first, first + n, given),
-    }
+    let (n, next) = count_at(image, at)?;
+    records(image, next, form, first, first + n, given)
 }

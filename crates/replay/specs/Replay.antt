@@ -1,15 +1,13 @@
 -- Many scans of a bank, each on the words as the one before left them, and on what is left of one event buffer.
-use Rattle.std.specs.Prelude.{ℕ, zero, suc, ◌+◌, ◌-◌, ◌*◌, ◌/◌, List, ◌++◌, cond, eqb, length, take, drop}
-use Rattle.settings.specs.declared.reply.Reply.{Reply}
-use Rattle.settings.specs.declared.reply.Reply.TheVariants.{Accepted, Refused as RefusedBy}
+use Rattle.std.specs.Prelude.{ℕ, zero, suc, ◌+◌, ◌-◌, ◌*◌, ◌/◌, List, ◌++◌, length, take, drop, None, Some, Result, Ok, Err}
+use Rattle.std.specs.Option.{option_or}
+use Rattle.settings.specs.Refusals.{and_then}
+use Rattle.settings.specs.declared.refusals.Refusal.{Refusal}
 use Rattle.layout.specs.Internal.Block.{counts_in}
 use Rattle.scan_record.specs.Internal.Size.{length_of}
 use Rattle.bank.specs.Internal.Words.{on_reply, fit_of}
 use Rattle.bank.specs.Lent.{Words}
 use Rattle.scan.specs.Internal.Words.{answer_of, scanned_words, buffer_of}
-use Rattle.scan.specs.declared.answer.Answer.{Answer}
-use Rattle.scan.specs.declared.answer.Answer.TheVariants.{Events, Refused}
-use Rattle.replay.specs.declared.replay.Replayed.{Replayed}
 use Rattle.replay.specs.declared.replay.Tally.{Tally}
 
 -- the length of a bank's records
@@ -26,19 +24,12 @@ records_in size bytes = (length bytes + (size - 1)) / size
 
 -- before the first record
 abbrev pub none_yet : Tally
-none_yet = record { events = 0; refused = 0; number = 0; place = 0; index = 0 }
+none_yet = record { events = 0; refused = 0; first = None }
 
 -- after the answer to the record with index i: n more events, or a refusal, of which the first is kept
-abbrev pub counted : Tally → Answer → ℕ → Tally
-counted t (Events n) i = record { events = t.events + n; refused = t.refused; number = t.number; place = t.place; index = t.index }
-counted t (Refused r) i =
-    record {
-      events = t.events;
-      refused = t.refused + 1;
-      number = cond (eqb t.refused 0) r.number t.number;
-      place = cond (eqb t.refused 0) r.place t.place;
-      index = cond (eqb t.refused 0) i t.index;
-    }
+abbrev pub counted : Tally → Result ℕ Refusal → ℕ → Tally
+counted t (Ok n) i = record { events = t.events + n; refused = t.refused; first = t.first }
+counted t (Err r) i = record { events = t.events; refused = t.refused + 1; first = option_or t.first (Some (record { refusal = r; index = i })) }
 
 -- after some records: the words, how the records were answered, and the event buffer
 pub record Progress : Type 0 where
@@ -74,14 +65,9 @@ replay_of w bytes out = progress_after w bytes out (records_in (size_for w) byte
 
 -- ---- a replay, whatever the words are
 
--- a reply, and how the records were answered
-abbrev pub replied : Reply → Tally → Replayed
-replied reply t =
-    record { reply = reply; events = t.events; refused = t.refused; number = t.number; place = t.place; index = t.index }
-
 -- what is answered; words that are no bank are refused, and no record is looked at
-unfoldable pub replayed_of : Words → List ℕ → List ℕ → Replayed
-replayed_of w bytes out = on_reply (fit_of w) (replied Accepted (replay_of w bytes out).tally) (λ r. replied (RefusedBy r) none_yet)
+unfoldable pub replayed_of : Words → List ℕ → List ℕ → Result Tally Refusal
+replayed_of w bytes out = and_then (fit_of w) (λ _. Ok (replay_of w bytes out).tally)
 
 -- the words after it
 unfoldable pub replayed_words : Words → List ℕ → List ℕ → Words

@@ -1,9 +1,9 @@
 -- What a report says where nothing is: all zeros and false.
-use Rattle.std.specs.Prelude.{false, List, replicate}
+use Rattle.std.specs.Prelude.{false, List, replicate, Err}
 use Rattle.wire.specs.Real.{zero_real}
 use Rattle.settings.specs.Refusals.{refusal}
-use Rattle.settings.specs.declared.reply.Refusal.{Refusal}
-use Rattle.settings.specs.declared.reply.Reply.TheVariants.{Refused}
+use Rattle.settings.specs.declared.refusals.Refusal.{Refusal}
+use Rattle.settings.specs.declared.refusals.Reason.TheVariants.{NoSuchAlarm}
 use Rattle.report.specs.declared.status.Status.{Status}
 use Rattle.report.specs.declared.whole.Whole.{Whole}
 use Rattle.report.specs.declared.report.AlarmReport.{AlarmReport}
@@ -21,8 +21,8 @@ no_whole = record { enabled = false; suppressed = false; infaulted = false; seve
 
 -- a report that was refused
 unfoldable pub refused_report : Refusal → AlarmReport
-refused_report r = record { reply = Refused r; alarm = no_whole; resettime = 0; conditions = no_statuses }
+refused_report r = record { reply = Err r; alarm = no_whole; resettime = 0; conditions = no_statuses }
 
 -- there is no such alarm
 unfoldable pub no_report : AlarmReport
-no_report = refused_report (refusal 14 0)
+no_report = refused_report (refusal NoSuchAlarm 0)

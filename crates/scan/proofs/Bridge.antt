@@ -11,9 +11,9 @@ use lib.ListN.{length, get_or, replicate, length-replicate}
 use lib.Seq.{sets, get_or-set_same, ext_get_or}
 use Rattle.layout.proofs.Laws.{length-placed, placed-above, placed_below}
 use Rattle.wire.proofs.Laws.{below}
+use Rattle.std.proofs.Common.{Result, Ok}
+use Rattle.settings.specs.declared.refusals.Refusal.{Refusal}
 use Rattle.settings.specs.declared.counts.Counts.{Counts}
-use Rattle.settings.specs.declared.reply.Reply.{Reply}
-use Rattle.settings.specs.declared.reply.Reply.TheVariants.{Accepted}
 use Rattle.layout.specs.Internal.Block.{placed, counts_in, count_in, alarm_on, settings_in}
 use Rattle.scan_record.specs.Part.{time_of}
 use Rattle.scan_record.specs.Check.{check_from, check_record}
@@ -31,14 +31,14 @@ use Rattle.bank.proofs.Places.{alarm-there, state-there}
 use Rattle.sweep.proofs.Stepped.{small-on}
 use Rattle.sweep.proofs.Loops.{not_yet, stepped-length}
 
-module _ (w : Words) (rec : List ℕ) (accepted : check_of (bank_in w) rec ≡ Accepted) where
+module _ (w : Words) (rec : List ℕ) (accepted : check_of (bank_in w) rec ≡ Ok tt) where
   abbrev counts : Counts
   counts = counts_in w.settings
 
   abbrev count : ℕ
   count = count_in w.settings
 
-  says : Whole counts (length rec) × (get_or w.states 0 0 ≤ time_of rec) × (check_from rec counts count 0 8 ≡ Accepted)
+  says : Whole counts (length rec) × (get_or w.states 0 0 ≤ time_of rec) × (check_from rec counts count 0 8 ≡ Ok tt)
   unfolding bank_in settings_in
   says = accepted-says counts (get_or w.states 0 0) rec accepted
 
@@ -184,10 +184,10 @@ module _ (w : Words) (rec : List ℕ) (accepted : check_of (bank_in w) rec ≡ A
 -- ---- of counts that were read off the words
 
 module _ (w : Words) (rec : List ℕ) {counts : Counts} (e : counts ≡ counts_in w.settings) where
-  pub check-is : {r : Reply} → check_record counts (get_or w.states 0 0) rec ≡ r → check_of (bank_in w) rec ≡ r
+  pub check-is : {r : Result (Unit {0}) Refusal} → check_record counts (get_or w.states 0 0) rec ≡ r → check_of (bank_in w) rec ≡ r
   unfolding bank_in settings_in
   check-is h = ap (λ (k : Counts). check_record k (get_or w.states 0 0) rec) (sym e) ∙ h
 
-  pub ready_for : check_record counts (get_or w.states 0 0) rec ≡ Accepted
+  pub ready_for : check_record counts (get_or w.states 0 0) rec ≡ Ok tt
       → (length w.settings ≡ 292) × (length w.states ≡ 580) × (length w.marks ≡ 900) → Ready w rec counts
   ready_for h l = rw e (ready w rec (check-is h) l)

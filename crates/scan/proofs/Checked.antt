@@ -9,9 +9,10 @@ use native.Mathlib.Omega.{arith}
 use lib.Dec.{ltb}
 use lib.ListN.{length, drop}
 use lib.Seq.{sets, sets-eq}
+use Rattle.std.proofs.Common.{Result, Ok, Err}
 use Rattle.settings.specs.Refusals.{refusal}
-use Rattle.settings.specs.declared.reply.Refusal.{Refusal}
-use Rattle.settings.specs.declared.reply.Reply.TheVariants.{Accepted, Refused as RefusedBy}
+use Rattle.settings.specs.declared.refusals.Refusal.{Refusal}
+use Rattle.settings.specs.declared.refusals.Reason.TheVariants.{EventsTooLong}
 use Rattle.layout.specs.Internal.Block.{count_in}
 use Rattle.event.specs.Event.{Event, log_bytes}
 use Rattle.event.proofs.Logs.{log-length}
@@ -21,8 +22,6 @@ use Rattle.bank.specs.Lent.{Words}
 use Rattle.bank.specs.Internal.Words.{bank_in}
 use Rattle.sweep.specs.Internal.Sweep.{logged_from, log_from, log_after, words_after}
 use Rattle.scan.specs.Internal.Words.{short_for, checked_answer, checked_words, checked_out, bank_answer, bank_words}
-use Rattle.scan.specs.declared.answer.Answer.{Answer}
-use Rattle.scan.specs.declared.answer.Answer.TheVariants.{Events, Refused}
 use Rattle.scan.proofs.Bridge.{events-are}
 use Rattle.scan.proofs.Scans.{refused-scan, accepted-scan, accepted-buffer}
 
@@ -34,9 +33,9 @@ module _ (w : Words) (rec : List ℕ) where
   sixteen = omega (arith, log-length (logged_from w rec 0 (count_in w.settings)))
 
   module _ (room : ℕ) (h : length (log_after w rec) ≤ room) where
-    pub roomy-answer : Events (length (log_after w rec) / 16) ≡ checked_answer w rec room
+    pub roomy-answer : Ok (length (log_after w rec) / 16) ≡ checked_answer w rec room
     unfolding checked_answer
-    roomy-answer = rw (le-ltb room (length (log_after w rec)) h) (ap (λ k. Events k) (sym sixteen))
+    roomy-answer = rw (le-ltb room (length (log_after w rec)) h) (ap Ok (sym sixteen))
 
     pub roomy-words : words_after w rec ≡ checked_words w rec room
     unfolding checked_words
@@ -47,7 +46,7 @@ module _ (w : Words) (rec : List ℕ) where
   roomy-out out h = rw (le-ltb (length out) (length (log_after w rec)) h)
 
   module _ (room : ℕ) (h : room < length (log_after w rec)) where
-    pub short-answer : Refused (refusal 12 0) ≡ checked_answer w rec room
+    pub short-answer : Err (refusal EventsTooLong 0) ≡ checked_answer w rec room
     unfolding checked_answer
     short-answer = rw (lt-ltb room (length (log_after w rec)) h)
 
@@ -62,11 +61,11 @@ module _ (w : Words) (rec : List ℕ) where
 -- ---- the bank that the words stand for
 
 answers : (t : Bool) (b b' : Bank) (k : ℕ)
-    → (cond t (refused_scan b (refusal 12 0)) (record { bank = b'; answer = Events k })).answer ≡ cond t (Refused (refusal 12 0)) (Events k)
+    → (cond t (refused_scan b (refusal EventsTooLong 0)) (record { bank = b'; answer = Ok k })).answer ≡ cond t (Err (refusal EventsTooLong 0)) (Ok k)
 answers true b b' k = refl
 answers false b b' k = refl
 
-chosen : (t : Bool) (k : ℕ) (new old : Words) → cond t old new ≡ if_accepted (cond t (Refused (refusal 12 0)) (Events k)) new old
+chosen : (t : Bool) (k : ℕ) (new old : Words) → cond t old new ≡ if_accepted (cond t (Err (refusal EventsTooLong 0)) (Ok k)) new old
 chosen true k new old = refl
 chosen false k new old = refl
 
@@ -74,7 +73,7 @@ same_out : (t : Bool) (out log : List ℕ) → (t ≡ false → length log ≤ l
 same_out true out log h = refl
 same_out false out log h = sym (sets-eq log out 0 (omega (arith, h refl)) ∙ ap (λ (k : ℕ). log ++ drop k out) (zero-add (length log)))
 
-module _ (w : Words) (rec : List ℕ) (accepted : check_of (bank_in w) rec ≡ Accepted) where
+module _ (w : Words) (rec : List ℕ) (accepted : check_of (bank_in w) rec ≡ Ok tt) where
   short-is : (room : ℕ) → ltb room (16 * length (events_in (bank_in w) rec)) ≡ short_for w rec room
   unfolding log_from
   short-is room =
@@ -87,13 +86,13 @@ module _ (w : Words) (rec : List ℕ) (accepted : check_of (bank_in w) rec ≡ A
       sym
       (ap (λ (s : Scanned). s.answer) (accepted-scan (bank_in w) rec room accepted)
       ∙ answers (ltb room (16 * length (events_in (bank_in w) rec))) (bank_in w) (bank_after (bank_in w) rec) (length (events_in (bank_in w) rec))
-      ∙ (λ i. cond (short-is room i) (Refused (refusal 12 0)) (Events (length (events-are w rec accepted i)))))
+      ∙ (λ i. cond (short-is room i) (Err (refusal EventsTooLong 0)) (Ok (length (events-are w rec accepted i)))))
 
   pub words_are : (room : ℕ) → checked_words w rec room ≡ bank_words w rec room
   unfolding checked_words checked_answer bank_words
   words_are room =
       chosen (short_for w rec room) (length (logged_from w rec 0 (count_in w.settings))) (words_after w rec) w
-      ∙ ap (λ (a : Answer). if_accepted a (words_after w rec) w) (answer-is room)
+      ∙ ap (λ (a : Result ℕ Refusal). if_accepted a (words_after w rec) w) (answer-is room)
 
   pub buffer-is : (out : List ℕ) → checked_out w rec out ≡ event_buffer (bank_in w) rec out
   unfolding checked_buffer checked_out log_from
@@ -106,11 +105,11 @@ module _ (w : Words) (rec : List ℕ) (accepted : check_of (bank_in w) rec ≡ A
 
 -- ---- a refused record
 
-module _ (w : Words) (rec : List ℕ) {r : Refusal} (refused : check_of (bank_in w) rec ≡ RefusedBy r) (room : ℕ) where
-  pub refused-answer : Refused r ≡ bank_answer w rec room
+module _ (w : Words) (rec : List ℕ) {r : Refusal} (refused : check_of (bank_in w) rec ≡ Err r) (room : ℕ) where
+  pub refused-answer : Err r ≡ bank_answer w rec room
   unfolding bank_answer
   refused-answer = sym (ap (λ (s : Scanned). s.answer) (refused-scan (bank_in w) rec room refused))
 
   pub refused-words : w ≡ bank_words w rec room
   unfolding bank_words
-  refused-words = ap (λ (a : Answer). if_accepted a (words_after w rec) w) refused-answer
+  refused-words = ap (λ (a : Result ℕ Refusal). if_accepted a (words_after w rec) w) refused-answer

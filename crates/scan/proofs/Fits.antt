@@ -7,10 +7,11 @@ use native.Mathlib.Omega.{arith}
 use borrow.Author.Tests.{ltb-false}
 use lib.Dec.{eqb}
 use lib.ListN.{length, drop, length-append, length-drop, length-set}
-use Rattle.settings.specs.Refusals.{refusal}
+use Rattle.std.proofs.Common.{Result, Ok, Err}
+use Rattle.settings.specs.Refusals.{refusal, and_then}
+use Rattle.settings.specs.declared.refusals.Refusal.{Refusal}
+use Rattle.settings.specs.declared.refusals.Reason.TheVariants.{EventsTooLong}
 use Rattle.layout.specs.Internal.Block.{no_bank, count_in, is_block}
-use Rattle.settings.specs.declared.reply.Reply.{Reply}
-use Rattle.settings.specs.declared.reply.Reply.TheVariants.{Accepted, Refused as RefusedBy}
 use Rattle.scan_record.specs.Part.{time_of}
 use Rattle.event.specs.Event.{log_bytes}
 use Rattle.event.proofs.Logs.{log-length}
@@ -20,28 +21,26 @@ use Rattle.scan.specs.Internal.Scan.{if_accepted, check_of, events_in, bank_afte
 use Rattle.bank.specs.Lent.{Words}
 use Rattle.sweep.specs.Internal.Sweep.{stepped_from, words_after}
 use Rattle.scan.specs.Internal.Words.{answer_of, scanned_words, buffer_of}
-use Rattle.scan.specs.declared.answer.Answer.{Answer}
-use Rattle.scan.specs.declared.answer.Answer.TheVariants.{Events, Refused}
 use Rattle.sweep.proofs.Loops.{stepped-length, marked-length}
 
 -- ---- on a bank
 
 -- a choice of refusal or events that ended in events
 took : (t : Bool) (b b' : Bank) {m n : ℕ}
-    → (cond t (refused_scan b (refusal 12 0)) (record { bank = b'; answer = Events m })).answer ≡ Events n → (t ≡ false) × (m ≡ n)
+    → (cond t (refused_scan b (refusal EventsTooLong 0)) (record { bank = b'; answer = Ok m })).answer ≡ Ok n → (t ≡ false) × (m ≡ n)
 took true b b' e = let z : ◌≡◌ {A = ℕ} 0 1 = cc in absurd (omega arith)
 took false b b' e = (refl, cc)
 
 module _ (b : Bank) (rec : List ℕ) where
-  bank-fits : (room : ℕ) {n : ℕ} → (scan_of b rec room).answer ≡ Events n → 16 * n ≤ room
+  bank-fits : (room : ℕ) {n : ℕ} → (scan_of b rec room).answer ≡ Ok n → 16 * n ≤ room
   unfolding scan_of checked_scan
   bank-fits room {n} e = go (check_of b rec) e
     where
-      go : (x : Reply) → (on_reply x (checked_scan b rec room) (λ r. refused_scan b r)).answer ≡ Events n → 16 * n ≤ room
-      go Accepted e =
+      go : (x : Result (Unit {0}) Refusal) → (on_reply x (checked_scan b rec room) (λ r. refused_scan b r)).answer ≡ Ok n → 16 * n ≤ room
+      go (Ok u) e =
           let t = took (too_short b rec room) b (bank_after b rec) e in
           omega (arith, ltb-false room (16 * length (events_in b rec)) t.0, t.1)
-      go (RefusedBy r) e = let z : ◌≡◌ {A = ℕ} 0 1 = cc in absurd (omega arith)
+      go (Err r) e = let z : ◌≡◌ {A = ℕ} 0 1 = cc in absurd (omega arith)
 
   abbrev log : List ℕ
   log = log_bytes (events_in b rec)
@@ -51,9 +50,9 @@ module _ (b : Bank) (rec : List ℕ) where
   unfolding event_buffer checked_buffer
   bank-buffer out = go (check_of b rec) (too_short b rec (length out)) refl
     where
-      go : (x : Reply) (t : Bool) → too_short b rec (length out) ≡ t → length (on_reply x (cond t out (log ++ drop (length log) out)) (λ r. out)) ≡ length out
-      go Accepted true e = refl
-      go Accepted false e =
+      go : (x : Result (Unit {0}) Refusal) (t : Bool) → too_short b rec (length out) ≡ t → length (on_reply x (cond t out (log ++ drop (length log) out)) (λ r. out)) ≡ length out
+      go (Ok u) true e = refl
+      go (Ok u) false e =
           omega (
             arith,
             length-append log (drop (length log) out),
@@ -61,27 +60,27 @@ module _ (b : Bank) (rec : List ℕ) where
             log-length (events_in b rec),
             ltb-false (length out) (16 * length (events_in b rec)) e,
           )
-      go (RefusedBy r) t e = refl
+      go (Err r) t e = refl
 
 -- ---- on words
 
 module _ (w : Words) (rec : List ℕ) where
   -- 16 bytes for each event of an accepted scan
-  pub fits : (room : ℕ) {n : ℕ} → answer_of w rec room ≡ Events n → 16 * n ≤ room
+  pub fits : (room : ℕ) {n : ℕ} → answer_of w rec room ≡ Ok n → 16 * n ≤ room
   unfolding answer_of
   fits room {n} e = go (fit_of w) e
     where
-      go : (x : Reply) → on_reply x (scan_of (bank_in w) rec room).answer (λ r. Refused r) ≡ Events n → 16 * n ≤ room
-      go Accepted e = bank-fits (bank_in w) rec room e
-      go (RefusedBy r) e = let z : ◌≡◌ {A = ℕ} 0 1 = cc in absurd (omega arith)
+      go : (x : Result (Unit {0}) Refusal) → and_then x (λ _. (scan_of (bank_in w) rec room).answer) ≡ Ok n → 16 * n ≤ room
+      go (Ok u) e = bank-fits (bank_in w) rec room e
+      go (Err r) e = let z : ◌≡◌ {A = ℕ} 0 1 = cc in absurd (omega arith)
 
   pub buffer-length : (out : List ℕ) → length (buffer_of w rec out) ≡ length out
   unfolding buffer_of
   buffer-length out = go (fit_of w)
     where
-      go : (x : Reply) → length (on_reply x (event_buffer (bank_in w) rec out) (λ r. out)) ≡ length out
-      go Accepted = bank-buffer (bank_in w) rec out
-      go (RefusedBy r) = refl
+      go : (x : Result (Unit {0}) Refusal) → length (on_reply x (event_buffer (bank_in w) rec out) (λ r. out)) ≡ length out
+      go (Ok u) = bank-buffer (bank_in w) rec out
+      go (Err r) = refl
 
 -- ---- words that differ in no setting and no length
 
@@ -107,8 +106,8 @@ unfolding fit_of
 alike-fit s =
     λ i.
     cond (is_block (s.settings-same i))
-    (cond (eqb (s.states-same i) 580) (cond (eqb (s.marks-same i) 900) Accepted (RefusedBy (no_bank 2))) (RefusedBy (no_bank 1)))
-    (RefusedBy (no_bank 0))
+    (cond (eqb (s.states-same i) 580) (cond (eqb (s.marks-same i) 900) (Ok (tt {0})) (Err (no_bank 2))) (Err (no_bank 1)))
+    (Err (no_bank 0))
 
 module _ (w : Words) (rec : List ℕ) where
   -- a checked record
@@ -127,9 +126,9 @@ module _ (w : Words) (rec : List ℕ) where
   unfolding scanned_words
   scan-alike room = go (answer_of w rec room)
     where
-      go : (a : Answer) → Alike (if_accepted a (words_after w rec) w) w
-      go (Events n) = after-alike
-      go (Refused r) = alike_self w
+      go : (a : Result ℕ Refusal) → Alike (if_accepted a (words_after w rec) w) w
+      go (Ok n) = after-alike
+      go (Err r) = alike_self w
 
   pub stays_fit : (room : ℕ) → fit_of (scanned_words w rec room) ≡ fit_of w
   stays_fit room = alike-fit (scan-alike room)

@@ -23,8 +23,9 @@ use Rattle.analog.specs.Internal.Analog.{analog_events, analog_step}
 use Rattle.sweep.specs.Internal.Step.{step_kind}
 use Rattle.state.specs.Internal.State.{State}
 use Rattle.event.proofs.Logs.{events-ones}
+use Rattle.std.proofs.Common.{Result, Ok, Err}
+use Rattle.settings.specs.declared.refusals.Refusal.{Refusal}
 use Rattle.scan_record.specs.declared.entry.Entry.{Entry}
-use Rattle.scan_record.specs.declared.entry.Entry.TheVariants.{Read, Refused}
 use Rattle.scan_record.specs.Part.{offset_of}
 use Rattle.scan_record.specs.Entry.{entry_at}
 use Rattle.sweep.specs.Internal.Sweep.{alarm_events}
@@ -38,9 +39,9 @@ unfolding step_kind digital_step analog_step
 step-word (Digital severity) a s x word time = omega (arith, word_lt (digital_events a x word time (look_digital s)))
 step-word (Analog g severities period) a s x word time = omega (arith, word_lt (analog_events reals (real_analog a) x word time (look_analog real_patterns s)))
 
-entry-word : (e : Entry) (a : Alarm) (s : State) (time : ℕ) → (step_entry e a s time).events < 2 ^ word_bits
-entry-word (Read x word next) a s time = step-word a.kind a s x word time
-entry-word (Refused r) a s time = omega arith
+entry-word : (e : Result Entry Refusal) (a : Alarm) (s : State) (time : ℕ) → (step_entry e a s time).events < 2 ^ word_bits
+entry-word (Ok e) a s time = step-word a.kind a s e.reading e.word time
+entry-word (Err r) a s time = omega arith
 
 module _ (rec : List ℕ) (counts : Counts) (alarms : List Alarm) (states : List State) (time : ℕ) (most : in_all counts ≤ 24) where
   -- the event word of the alarm at a place

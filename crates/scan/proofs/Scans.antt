@@ -2,24 +2,24 @@
 use mathlib.Core.Path.{◌≡◌}
 use mathlib.Core.List.{List}
 use Prim.Native.Nat.{ℕ}
-use Rattle.settings.specs.declared.reply.Refusal.{Refusal}
-use Rattle.settings.specs.declared.reply.Reply.TheVariants.{Accepted, Refused as RefusedBy}
+use Rattle.std.proofs.Common.{Ok, Err}
+use Rattle.settings.specs.declared.refusals.Refusal.{Refusal}
 use Rattle.bank.specs.Internal.Bank.{Bank}
 use Rattle.scan.specs.Internal.Scan.{check_of, refused_scan, checked_scan, checked_buffer, scan_of, event_buffer}
 
 module _ (b : Bank) (rec : List ℕ) where
-  pub refused-scan : {r : Refusal} (room : ℕ) → check_of b rec ≡ RefusedBy r → scan_of b rec room ≡ refused_scan b r
+  pub refused-scan : {r : Refusal} (room : ℕ) → check_of b rec ≡ Err r → scan_of b rec room ≡ refused_scan b r
   unfolding scan_of
   refused-scan room h = rw h
 
-  pub refused-buffer : {r : Refusal} (out : List ℕ) → check_of b rec ≡ RefusedBy r → event_buffer b rec out ≡ out
+  pub refused-buffer : {r : Refusal} (out : List ℕ) → check_of b rec ≡ Err r → event_buffer b rec out ≡ out
   unfolding event_buffer
   refused-buffer out h = rw h
 
-  pub accepted-scan : (room : ℕ) → check_of b rec ≡ Accepted → scan_of b rec room ≡ checked_scan b rec room
+  pub accepted-scan : (room : ℕ) → check_of b rec ≡ Ok tt → scan_of b rec room ≡ checked_scan b rec room
   unfolding scan_of
   accepted-scan room h = rw h
 
-  pub accepted-buffer : (out : List ℕ) → check_of b rec ≡ Accepted → event_buffer b rec out ≡ checked_buffer b rec out
+  pub accepted-buffer : (out : List ℕ) → check_of b rec ≡ Ok tt → event_buffer b rec out ≡ checked_buffer b rec out
   unfolding event_buffer
   accepted-buffer out h = rw h

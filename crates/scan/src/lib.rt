@@ -1,6 +1,4 @@
 // One scan of a bank, in the words that a caller lends.
 #![tactic(auto)]
 
-pub mod answer;
-pub mod copy;
 pub mod scan;

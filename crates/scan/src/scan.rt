@@ -2,22 +2,18 @@
 ghost use Rattle.std.specs.Prelude.{◌≡◌, length};
 ghost use Rattle.layout.specs.Internal.Sizes.{marks_size, settings_size, states_size};
 ghost use Rattle.settings.specs.Internal.Few.{Few};
-ghost use Rattle.settings.specs.Refusals.{refusal};
 ghost use Rattle.bank.specs.Internal.Words.{words_in, bank_in};
 ghost use Rattle.sweep.specs.Internal.Sweep.{Ready, most_bytes};
 ghost use Rattle.scan.specs.Internal.Scan.{event_buffer};
 ghost use Rattle.scan.specs.Internal.Words.{checked_answer, checked_words, checked_out, bank_answer, bank_words, answer_of, scanned_words, buffer_of};
 
-use crate::answer::Answer;
-use crate::copy::{copy_bytes, copy_words};
 use bank::fit::fit;
 use event::write::EVENT_SIZE;
 use layout::block::counts_in;
 use layout::sizes::{MARKS_WORDS, STATES_WORDS};
 use scan_record::check::check_record;
 use settings::counts::{Counts, MOST};
-use settings::refusals::EVENTS_TOO_LONG;
-use settings::reply::{Refusal, Reply};
+use settings::refusals::{Reason, Refusal};
 use sweep::alarms::scan_alarms;
 
 // Bytes of events that an alarm has at most in a scan: 5 events of a digital one, 15 of an analog one.
@@ -36,16 +32,6 @@ fn most_bytes(counts: Counts) -> usize
     DIGITAL_MOST * counts.digital + ANALOG_MOST * counts.analog
 }
 
-// The events of a scan need more bytes than the buffer has.
-fn too_long() -> Answer
-    ensures { result ≡ Answer.Refused (refusal 12 0) }
-{
-    Answer::Refused(Refusal {
-        number: EVENTS_TOO_LONG,
-        place: 0,
-    })
-}
-
 // Runs a checked record where the buffer may be too short: on copies, with a buffer that suffices, and takes them over if it was
 // not. A refused scan writes nothing.
 fn scan_short(
@@ -55,7 +41,7 @@ fn scan_short(
     bytes: &[u8],
     out: &mut [u8],
     counts: Counts,
-) -> Answer
+) -> Result<usize, Refusal>
     requires { Ready (words_in settings.now states.old marks.old) bytes.now counts }
     ensures value { result ≡ checked_answer (words_in settings.now states.old marks.old) bytes.now
         (length out.old) }
@@ -67,9 +53,9 @@ fn scan_short(
         out.old }
 {
     let mut stepped = [0; STATES_WORDS];
-    copy_words(states, &mut stepped);
+    stepped.copy_from_slice(states);
     let mut marked = [0; MARKS_WORDS];
-    copy_words(marks, &mut marked);
+    marked.copy_from_slice(marks);
     let mut events = [0; EVENTS_ENOUGH];
     let used = scan_alarms(
         settings,
@@ -80,12 +66,12 @@ fn scan_short(
         counts,
     );
     if out.len() < used {
-        return too_long();
+        return Err(Reason::EventsTooLong.at(0));
     }
-    copy_words(&stepped, states);
-    copy_words(&marked, marks);
-    copy_bytes(&events, out, used);
-    Answer::Events(used / EVENT_SIZE)
+    states.copy_from_slice(&stepped);
+    marks.copy_from_slice(&marked);
+    out[..used].copy_from_slice(&events[..used]);
+    Ok(used / EVENT_SIZE)
 }
 
 // Checks a record and runs it, on words that are a bank's.
@@ -95,7 +81,7 @@ fn scan_bank(
     marks: &mut [u64],
     bytes: &[u8],
     out: &mut [u8],
-) -> Answer
+) -> Result<usize, Refusal>
     requires { (length settings.now ≡ settings_size) × (length states.old ≡ states_size) × (length marks.old ≡ marks_size) }
     ensures value { result ≡ bank_answer (words_in settings.now states.old marks.old) bytes.now
         (length out.old) }
@@ -107,25 +93,22 @@ fn scan_bank(
         bytes.now out.old }
 {
     let counts = counts_in(settings);
-    let reply = check_record(bytes, counts, states[0]);
-    if let Reply::Refused(refusal) = reply {
-        return Answer::Refused(refusal);
-    }
+    check_record(bytes, counts, states[0])?;
     if out.len() < most_bytes(counts) {
         return scan_short(settings, states, marks, bytes, out, counts);
     }
     let used = scan_alarms(settings, states, marks, bytes, out, counts);
-    Answer::Events(used / EVENT_SIZE)
+    Ok(used / EVENT_SIZE)
 }
 
-// Runs one scan in place: fills the front of `out` with its events, or refuses and leaves every word and byte.
+// Runs one scan in place: fills the front of `out` with its events and answers how many they are, or refuses and leaves every word and byte.
 pub fn scan(
     settings: &[u64],
     states: &mut [u64],
     marks: &mut [u64],
     bytes: &[u8],
     out: &mut [u8],
-) -> Answer
+) -> Result<usize, Refusal>
     ensures value { result ≡ answer_of (words_in settings.now states.old marks.old) bytes.now
         (length out.old) }
     ensures states_after { states.new ≡ (scanned_words (words_in settings.now states.old marks.old)
@@ -135,9 +118,6 @@ pub fn scan(
     ensures out_after { out.new ≡ buffer_of (words_in settings.now states.old marks.old) bytes.now
         out.old }
 {
-    let reply = fit(settings, states, marks);
-    match reply {
-        Reply::Accepted => scan_bank(settings, states, marks, bytes, out),
-        Reply::Refused(refusal) => Answer::Refused(refusal),
-    }
+    fit(settings, states, marks)?;
+    scan_bank(settings, states, marks, bytes, out)
 }

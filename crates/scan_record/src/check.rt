@@ -7,11 +7,10 @@ ghost use Rattle.scan_record.specs.Internal.Size.{length_of};
 ghost use Rattle.scan_record.specs.Internal.Forms.{check_form};
 ghost use Rattle.scan_record.specs.Check.{check_from, check_record};
 
-use crate::entry::{Entry, entry_at};
+use crate::entry::entry_at;
 use crate::part::{ANALOG_PART, DIGITAL_PART, TIME_SIZE};
 use settings::counts::{Counts, are_good, in_all};
-use settings::refusals::{EARLIER_TIME, WRONG_LENGTH};
-use settings::reply::{Refusal, Reply};
+use settings::refusals::{Reason, Refusal};
 use settings::types::Form;
 use wire::number::get_u64;
 
@@ -32,43 +31,42 @@ pub fn record_length(counts: Counts) -> usize
     length_of(counts)
 }
 
-// Checks the alarms of one form, at the places from `first` to `end`, whose parts begin at `begin`, in number order, and answers
+// Checks the alarms of one form, at the places from `first` to before `end`, whose parts begin at `begin`, in number order, and answers
 // the first refusal. Each call names its form, so that no turn of the loop has to ask for it.
-fn check_form(bytes: &[u8], form: Form, begin: usize, first: usize, end: usize) -> Reply
+fn check_form(
+    bytes: &[u8],
+    form: Form,
+    begin: usize,
+    first: usize,
+    end: usize,
+) -> Result<(), Refusal>
     requires { (first ≤ end) × (begin + entry_size form * (end - first) ≤ length bytes.now) }
     ensures { result ≡ check_form form bytes.now (end - first) first begin }
 {
-    let mut place = first;
+    let mut reply = Ok(());
     let mut at = begin;
-    loop {
-        if place == end {
-            break Reply::Accepted;
-        }
+    for place in first..end {
         match entry_at(bytes, at, form, place + 1) {
-            Entry::Refused(refusal) => break Reply::Refused(refusal),
-            Entry::Read(_, _, next) => {
-                place += 1;
-                at = next;
+            Ok(entry) => at = entry.next,
+            Err(refusal) => {
+                reply = Err(refusal);
+                break;
             }
         }
     }
+    reply
 }
 
 // Checks each alarm in number order, the digital ones first, and answers the first refusal, of a record that has the
 // right length.
-fn check_alarms(bytes: &[u8], counts: Counts) -> Reply
+fn check_alarms(bytes: &[u8], counts: Counts) -> Result<(), Refusal>
     requires few { Few counts }
     requires bytes_len { length bytes.now ≡ record_size counts }
     ensures { result ≡ check_from bytes.now counts (in_all counts) 0 8 }
 {
-    let digital = check_form(bytes, Form::Digital, TIME_SIZE, 0, counts.digital);
-    match digital {
-        Reply::Refused(refusal) => Reply::Refused(refusal),
-        Reply::Accepted => {
-            let begin = TIME_SIZE + DIGITAL_PART * counts.digital;
-            check_form(bytes, Form::Analog, begin, counts.digital, in_all(counts))
-        }
-    }
+    check_form(bytes, Form::Digital, TIME_SIZE, 0, counts.digital)?;
+    let begin = TIME_SIZE + DIGITAL_PART * counts.digital;
+    check_form(bytes, Form::Analog, begin, counts.digital, in_all(counts))
 }
 
 // Whether a bank may have these counts, and its records have `len` bytes.
@@ -79,20 +77,14 @@ fn is_whole(counts: Counts, len: usize) -> bool
 }
 
 // Checks a record against a bank's counts and the time of the last accepted scan.
-pub fn check_record(bytes: &[u8], counts: Counts, last: u64) -> Reply
+pub fn check_record(bytes: &[u8], counts: Counts, last: u64) -> Result<(), Refusal>
     ensures { result ≡ check_record counts last bytes.now }
 {
     if !is_whole(counts, bytes.len()) {
-        return Reply::Refused(Refusal {
-            number: WRONG_LENGTH,
-            place: 0,
-        });
+        return Err(Reason::WrongLength.at(0));
     }
     if get_u64(bytes, 0) < last {
-        return Reply::Refused(Refusal {
-            number: EARLIER_TIME,
-            place: 0,
-        });
+        return Err(Reason::EarlierTime.at(0));
     }
     check_alarms(bytes, counts)
 }

@@ -3,30 +3,23 @@ ghost use Rattle.std.specs.Prelude.{◌≡◌, ◌+◌, ◌≤◌, length};
 ghost use Rattle.std.specs.Float.{binary32};
 ghost use Rattle.std.specs.Float.Ieee.{of_bits};
 ghost use Rattle.wire.specs.Real.{bounded};
-ghost use Rattle.settings.specs.Refusals.{refusal};
 ghost use Rattle.wire.specs.Bits.{is_one_of, sets_only};
 ghost use Rattle.wire.specs.Internal.Words.{mask_of};
 ghost use Rattle.scan_record.specs.Part.{entry_size};
 ghost use Rattle.scan_record.specs.Entry.{bits_of, entry_at};
 
 use crate::part::{ANALOG_PART, ANALOG_WORD, DIGITAL_PART, DIGITAL_WORD};
-use settings::refusals::{BAD_REAL, NOT_A_BIT, UNKNOWN_COMMAND};
-use settings::reply::Refusal;
+use settings::refusals::{Reason, Refusal};
 use settings::types::{Form, Reading};
 use wire::number::get_u32;
 use wire::real::from_pattern;
 
-// The decoded reading, the command word and the offset past them, or the refusal.
+// An alarm's part, decoded, and the offset past it.
 #[derive(Clone, Copy)]
-pub enum Entry {
-    Read(Reading, u32, usize),
-    Refused(Refusal),
-}
-
-fn refuse(number: u32, place: usize) -> Entry
-    ensures { result ≡ Entry.Refused (refusal number place) }
-{
-    Entry::Refused(Refusal { number, place })
+pub struct Entry {
+    pub reading: Reading,
+    pub word: u32,
+    pub next: usize,
 }
 
 // The highest byte that is a digital reading.
@@ -65,22 +58,26 @@ fn is_bounded_pattern(pattern: u32) -> bool
     pattern % SIGN <= LARGEST
 }
 
-fn digital_entry(bytes: &[u8], at: usize, alarm: usize) -> Entry
+fn digital_entry(bytes: &[u8], at: usize, alarm: usize) -> Result<Entry, Refusal>
     requires { at + 5 ≤ length bytes.now }
     ensures { result ≡ entry_at Form.Digital bytes.now at alarm }
 {
     let input = bytes[at];
     let word = get_u32(bytes, at + DIGITAL_WORD);
     if HIGHEST_INPUT < input {
-        return refuse(NOT_A_BIT, alarm);
+        return Err(Reason::NotABit.at(alarm));
     }
     if !is_command(word, Form::Digital) {
-        return refuse(UNKNOWN_COMMAND, alarm);
+        return Err(Reason::UnknownCommand.at(alarm));
     }
-    Entry::Read(Reading::Digital(input == 1), word, at + DIGITAL_PART)
+    Ok(Entry {
+        reading: Reading::Digital(input == 1),
+        word,
+        next: at + DIGITAL_PART,
+    })
 }
 
-fn analog_entry(bytes: &[u8], at: usize, alarm: usize) -> Entry
+fn analog_entry(bytes: &[u8], at: usize, alarm: usize) -> Result<Entry, Refusal>
     requires { at + 8 ≤ length bytes.now }
     ensures { result ≡ entry_at Form.Analog bytes.now at alarm }
 {
@@ -89,20 +86,20 @@ fn analog_entry(bytes: &[u8], at: usize, alarm: usize) -> Entry
     let within = is_bounded_pattern(pattern);
     let is_beyond = !within;
     if is_beyond {
-        return refuse(BAD_REAL, alarm);
+        return Err(Reason::BadReal.at(alarm));
     }
     if !is_command(word, Form::Analog) {
-        return refuse(UNKNOWN_COMMAND, alarm);
+        return Err(Reason::UnknownCommand.at(alarm));
     }
-    Entry::Read(
-        Reading::Level(from_pattern(pattern)),
+    Ok(Entry {
+        reading: Reading::Level(from_pattern(pattern)),
         word,
-        at + ANALOG_PART,
-    )
+        next: at + ANALOG_PART,
+    })
 }
 
-// The part of alarm number `alarm`, at an offset.
-pub fn entry_at(bytes: &[u8], at: usize, form: Form, alarm: usize) -> Entry
+// The part of alarm number `alarm`, at an offset, or its first refusal.
+pub fn entry_at(bytes: &[u8], at: usize, form: Form, alarm: usize) -> Result<Entry, Refusal>
     requires { at + entry_size form ≤ length bytes.now }
     ensures { result ≡ entry_at form bytes.now at alarm }
 {

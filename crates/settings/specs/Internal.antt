@@ -2,3 +2,4 @@
 pub mod Few
 pub mod Sound
 pub mod Reals
+pub mod Replies

@@ -1,14 +1,20 @@
--- A refusal: document 01's number and the place. Settings: 1 a byte of a count or of a record missing, 2 a count over 12, both at the offset; 3 an
--- unknown flag, 4 a number outside its range, 5 the rules of limits and Deadband, at the record's offset; 6 bytes left over, at the first.
--- A scan: 7 its length, 8 its time; 9 a digital byte that is not 0 or 1, 10 a bad REAL, 11 a bit that its kind lacks, at the alarm; 12 the
--- event buffer is too short. 13 a buffer is shorter than the image, 14 there is no such alarm. A place that is not named is 0.
-use Rattle.std.specs.Prelude.{ℕ, Bool, cond, List, [], ◌∷◌}
-use Rattle.settings.specs.declared.reply.Refusal.{Refusal}
+-- A refusal: the reason, a name for each of document 01's numbers, and the place. Settings: 1 a byte of a count or of a record missing, 2 a count over 12, both
+-- at the offset; 3 an unknown flag, 4 a number outside its range, 5 the rules of limits and Deadband, at the record's offset; 6 bytes left over,
+-- at the first. A scan: 7 its length, 8 its time; 9 a digital byte that is not 0 or 1, 10 a bad REAL, 11 a bit that its kind lacks, at the alarm;
+-- 12 the event buffer is too short. 13 a buffer is shorter than the image, 14 there is no such alarm. A place that is not named is 0.
+use Rattle.std.specs.Prelude.{ℕ, Bool, cond, List, [], ◌∷◌, Result, Ok, Err}
+use Rattle.settings.specs.declared.refusals.Refusal.{Refusal}
+use Rattle.settings.specs.declared.refusals.Reason.{Reason}
 
-abbrev pub refusal : ℕ → ℕ → Refusal
-refusal number place = record { number = number; place = place }
+abbrev pub refusal : Reason → ℕ → Refusal
+refusal reason place = record { reason = reason; place = place }
+
+-- what follows where nothing was refused; a refusal stays
+abbrev pub and_then : {A B : Type 0} → Result A Refusal → (A → Result B Refusal) → Result B Refusal
+and_then (Ok a) f = f a
+and_then (Err r) f = Err r
 
 -- of checks in order, each a refusal and the test that spares it, the first that fails gives its refusal; what was read stands where all hold
-unfoldable pub checked : {A : Type 0} → (Refusal → A) → List (Refusal × Bool) → A → A
-checked refused [] read = read
-checked refused (c ∷ rest) read = cond c.1 (checked refused rest read) (refused c.0)
+unfoldable pub checked : {A : Type 0} → List (Refusal × Bool) → A → Result A Refusal
+checked [] read = Ok read
+checked (c ∷ rest) read = cond c.1 (checked rest read) (Err c.0)

@@ -3,7 +3,6 @@
 
 pub mod counts;
 pub mod refusals;
-pub mod reply;
 pub mod rules;
 pub mod severity;
 pub mod types;

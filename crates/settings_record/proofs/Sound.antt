@@ -16,7 +16,7 @@ use Rattle.settings.specs.declared.types.Alarm.{Alarm}
 use Rattle.settings.specs.declared.types.Form.{Form}
 use Rattle.settings.specs.declared.types.Form.TheVariants.{Digital as DigitalForm, Analog as AnalogForm}
 use Rattle.settings_record.specs.Record.{word_place, limits_at, fields_at, record_at}
-use Rattle.settings_record.specs.declared.record.Record.TheVariants.{Alarm as Recorded}
+use Rattle.std.proofs.Common.{Ok}
 use Rattle.settings_record.proofs.Laws.{was_read}
 
 -- ---- tests taken apart
@@ -84,7 +84,7 @@ module _ {X : Type 0} (n : Numbers X) where
         }
 
 -- of a record of either form
-pub sound : (form : Form) (image : List ℕ) (at : ℕ) {a : Alarm} {next : ℕ} → record_at form image at ≡ Recorded a next → SoundAlarm form a
+pub sound : (form : Form) (image : List ℕ) (at : ℕ) {a : Alarm} {next : ℕ} → record_at form image at ≡ Ok (a, next) → SoundAlarm form a
 unfolding fields_at in_range apart
 sound DigitalForm image at e =
     let r = was_read DigitalForm image at e in

@@ -1,5 +1,5 @@
 -- An alarm's record: its fields by offset, and the first refusal that applies. Each refusal's place is the record's offset.
-use Rattle.std.specs.Prelude.{ℕ, ◌+◌, ◌*◌, List, [], ◌∷◌, Bool, ltb, leb, length, get_or, Float}
+use Rattle.std.specs.Prelude.{ℕ, ◌+◌, ◌*◌, List, [], ◌∷◌, Bool, ltb, leb, length, get_or, Float, Result}
 use Rattle.wire.specs.Number.{number}
 use Rattle.wire.specs.Real.{real_at}
 use Rattle.settings.specs.Refusals.{checked, refusal}
@@ -12,9 +12,8 @@ use Rattle.settings.specs.declared.types.Kind.{Kind}
 use Rattle.settings.specs.declared.types.Kind.TheVariants.{Digital, Analog}
 use Rattle.settings.specs.declared.types.Form.{Form}
 use Rattle.settings.specs.declared.types.Form.TheVariants.{Digital as DigitalForm, Analog as AnalogForm}
-use Rattle.settings.specs.declared.reply.Refusal.{Refusal}
-use Rattle.settings_record.specs.declared.record.Record.{Record}
-use Rattle.settings_record.specs.declared.record.Record.TheVariants.{Alarm as Read, Refused}
+use Rattle.settings.specs.declared.refusals.Refusal.{Refusal}
+use Rattle.settings.specs.declared.refusals.Reason.TheVariants.{Incomplete, UnknownFlag, OutOfRange, WrongLimits}
 
 -- where the k-th word of a record stands, behind the byte of flags
 abbrev pub word_place : ℕ → ℕ → ℕ
@@ -48,15 +47,15 @@ fields_at AnalogForm image at =
 
 -- 3 a flag above bit 2, or above bit 4 of an analog alarm; 4 a number out of its range; 5 the order of levels or Deadband
 abbrev pub checks_of : Kind → ℕ → ℕ → ℕ → List (Refusal × Bool)
-checks_of (Digital severity) flags duration at = (refusal 3 at, ltb flags 8) ∷ (refusal 4 at, duration_in_range duration) ∷ []
+checks_of (Digital severity) flags duration at = (refusal UnknownFlag at, ltb flags 8) ∷ (refusal OutOfRange at, duration_in_range duration) ∷ []
 checks_of (Analog g severities period) flags duration at =
-    (refusal 3 at, ltb flags 32) ∷ (refusal 4 at, in_range reals (real_limit g) g.deadband period duration)
-    ∷ (refusal 5 at, apart reals flags (real_limit g) g.deadband) ∷ []
+    (refusal UnknownFlag at, ltb flags 32) ∷ (refusal OutOfRange at, in_range reals (real_limit g) g.deadband period duration)
+    ∷ (refusal WrongLimits at, apart reals flags (real_limit g) g.deadband) ∷ []
 
--- 1 where the record is incomplete, then the checks of its alarm
-unfoldable pub record_at : Form → List ℕ → ℕ → Record
+-- 1 where the record is incomplete, then the checks of its alarm; it is read with the offset past it
+unfoldable pub record_at : Form → List ℕ → ℕ → Result (Alarm × ℕ) Refusal
 record_at form image at =
     let a = fields_at form image at in
-    checked Refused
-    ((refusal 1 at, leb (at + size_of form) (length image)) ∷ checks_of a.kind a.flags a.duration at)
-    (Read a (at + size_of form))
+    checked
+    ((refusal Incomplete at, leb (at + size_of form) (length image)) ∷ checks_of a.kind a.flags a.duration at)
+    (a, at + size_of form)

@@ -1,6 +1,5 @@
 // An alarm's record in a settings image.
 ghost use Rattle.std.specs.Prelude.{◌≡◌, ◌+◌, ◌≤◌, length};
-ghost use Rattle.settings.specs.Refusals.{refusal};
 ghost use Rattle.settings_record.specs.Record.{limits_at, severities_at, size_of, record_at};
 ghost use Rattle.settings_record.specs.Internal.Whole.{whole_record};
 
@@ -9,8 +8,7 @@ use crate::fields::{
     LIMIT_L, LIMIT_LL, LIMIT_ROCNEG, LIMIT_ROCPOS, PERIOD, SEVERITY, SEVERITY_H, SEVERITY_HH,
     SEVERITY_L, SEVERITY_LL, SEVERITY_ROCNEG, SEVERITY_ROCPOS,
 };
-use settings::refusals::{INCOMPLETE, OUT_OF_RANGE, UNKNOWN_FLAG, WRONG_LIMITS};
-use settings::reply::Refusal;
+use settings::refusals::{Reason, Refusal};
 use settings::rules::{levels_apart, numbers_in_range};
 use settings::types::{Alarm, Form, Kind, Limits, Severities};
 use wire::number::{get_u32, has};
@@ -20,19 +18,6 @@ use wire::real::get_real;
 const DIGITAL_FLAGS: u8 = 8;
 
 const ANALOG_FLAGS: u8 = 32;
-
-// An alarm's settings and the offset past its record, or the refusal.
-#[derive(Clone, Copy)]
-pub enum Record {
-    Alarm(Alarm, usize),
-    Refused(Refusal),
-}
-
-fn refuse(number: u32, place: usize) -> Record
-    ensures { result ≡ Record.Refused (refusal number place) }
-{
-    Record::Refused(Refusal { number, place })
-}
 
 fn severities_at(image: &[u8], at: usize) -> Severities
     requires { at + size_of Form.Analog ≤ length image.now }
@@ -64,7 +49,7 @@ fn limits_at(image: &[u8], at: usize) -> Limits
 }
 
 // The checks of a digital record that is there whole.
-fn digital_record(image: &[u8], at: usize) -> Record
+fn digital_record(image: &[u8], at: usize) -> Result<(Alarm, usize), Refusal>
     requires { at + size_of Form.Digital ≤ length image.now }
     ensures { result ≡ whole_record Form.Digital image.now at }
 {
@@ -72,24 +57,22 @@ fn digital_record(image: &[u8], at: usize) -> Record
     let severity = get_u32(image, at + SEVERITY);
     let duration = get_u32(image, at + DIGITAL_DURATION);
     if DIGITAL_FLAGS <= flags {
-        return refuse(UNKNOWN_FLAG, at);
+        return Err(Reason::UnknownFlag.at(at));
     }
     if 0x7FFF_FFFF < duration {
-        return refuse(OUT_OF_RANGE, at);
+        return Err(Reason::OutOfRange.at(at));
     }
     let kind = Kind::Digital { severity };
-    Record::Alarm(
-        Alarm {
-            flags,
-            duration,
-            kind,
-        },
-        at + DIGITAL_SIZE,
-    )
+    let alarm = Alarm {
+        flags,
+        duration,
+        kind,
+    };
+    Ok((alarm, at + DIGITAL_SIZE))
 }
 
 // The checks of an analog record that is there whole.
-fn analog_record(image: &[u8], at: usize) -> Record
+fn analog_record(image: &[u8], at: usize) -> Result<(Alarm, usize), Refusal>
     requires { at + size_of Form.Analog ≤ length image.now }
     ensures { result ≡ whole_record Form.Analog image.now at }
 {
@@ -99,27 +82,25 @@ fn analog_record(image: &[u8], at: usize) -> Record
     let period = get_u32(image, at + PERIOD);
     let duration = get_u32(image, at + ANALOG_DURATION);
     if ANALOG_FLAGS <= flags {
-        return refuse(UNKNOWN_FLAG, at);
+        return Err(Reason::UnknownFlag.at(at));
     }
     if !numbers_in_range(limits, period, duration) {
-        return refuse(OUT_OF_RANGE, at);
+        return Err(Reason::OutOfRange.at(at));
     }
     if !levels_apart(flags, limits) {
-        return refuse(WRONG_LIMITS, at);
+        return Err(Reason::WrongLimits.at(at));
     }
     let kind = Kind::Analog {
         limits,
         severities,
         period,
     };
-    Record::Alarm(
-        Alarm {
-            flags,
-            duration,
-            kind,
-        },
-        at + ANALOG_SIZE,
-    )
+    let alarm = Alarm {
+        flags,
+        duration,
+        kind,
+    };
+    Ok((alarm, at + ANALOG_SIZE))
 }
 
 pub fn record_size(form: Form) -> usize
@@ -131,11 +112,12 @@ pub fn record_size(form: Form) -> usize
     }
 }
 
-pub fn record_at(image: &[u8], at: usize, form: Form) -> Record
+// An alarm's settings and the offset past its record, or the refusal.
+pub fn record_at(image: &[u8], at: usize, form: Form) -> Result<(Alarm, usize), Refusal>
     ensures { result ≡ record_at form image.now at }
 {
     if !has(image, at, record_size(form)) {
-        return refuse(INCOMPLETE, at);
+        return Err(Reason::Incomplete.at(at));
     }
     match form {
         Form::Digital => digital_record(image, at),

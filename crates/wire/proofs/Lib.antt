@@ -4,3 +4,4 @@ pub mod WordLaws
 pub mod MaskLaws
 pub mod Masks
 mod Examples
+pub mod Front

@@ -1,9 +1,8 @@
 -- A bank of alarms as a value, and before its first scan.
 use Rattle.std.specs.Prelude.{ℕ, List, replicate}
 use Rattle.layout.specs.Internal.Sizes.{marks_size}
-use Rattle.reader.specs.Read.{read_of}
+use Rattle.reader.specs.Read.{settings_of}
 use Rattle.settings.specs.declared.types.Settings.{Settings}
-use Rattle.settings.specs.declared.reply.Reply.{Reply}
 use Rattle.state.specs.Internal.Held.{fresh_state}
 use Rattle.state.specs.Internal.State.{State}
 
@@ -16,14 +15,10 @@ pub record Bank : Type 0 where
   pub states : List State
   pub marks : List ℕ
 
-pub record Loaded : Type 0 where
-  pub bank : Bank
-  pub reply : Reply
-
 -- no scan was accepted yet: time, states, counts and stamps are 0
 unfoldable pub fresh_bank : Settings → Bank
 fresh_bank s = record { settings = s; time = 0; states = replicate 24 fresh_state; marks = replicate marks_size 0 }
 
 -- the bank of a settings image; of a refused one a bank without alarms
-unfoldable pub load_of : List ℕ → Loaded
-load_of image = record { bank = fresh_bank (read_of image).settings; reply = (read_of image).reply }
+unfoldable pub load_of : List ℕ → Bank
+load_of image = fresh_bank (settings_of image)

@@ -1,9 +1,7 @@
 -- A bank in words that a caller lends: settings, states, and counts and stamps. Every content of the words stands for some bank.
-use Rattle.std.specs.Prelude.{ℕ, cond, List, eqb, length, get_or, replicate}
+use Rattle.std.specs.Prelude.{ℕ, cond, List, eqb, length, get_or, replicate, Result, Ok, Err, ⊤}
 use Rattle.layout.specs.Internal.Sizes.{marks_size, states_size}
-use Rattle.settings.specs.declared.reply.Refusal.{Refusal}
-use Rattle.settings.specs.declared.reply.Reply.{Reply}
-use Rattle.settings.specs.declared.reply.Reply.TheVariants.{Accepted, Refused as RefusedBy}
+use Rattle.settings.specs.declared.refusals.Refusal.{Refusal}
 use Rattle.layout.specs.Internal.Block.{no_bank, placed, settings_in, is_block}
 use Rattle.state.specs.Internal.Held.{fresh_state}
 use Rattle.state.specs.Internal.State.{state_in, state_at}
@@ -13,18 +11,18 @@ use Rattle.bank.specs.Internal.Bank.{Bank}
 abbrev pub words_in : List ℕ → List ℕ → List ℕ → Words
 words_in settings states marks = record { settings = settings; states = states; marks = marks }
 
-abbrev pub on_reply : {X : Type 0} → Reply → X → (Refusal → X) → X
-on_reply Accepted x f = x
-on_reply (RefusedBy r) x f = f r
+abbrev pub on_reply : {X : Type 0} → Result ⊤ Refusal → X → (Refusal → X) → X
+on_reply (Ok accepted) x f = x
+on_reply (Err r) x f = f r
 
 -- ---- words that a call wrote
 
 -- each block has its length, and the first word of the settings is the layout's. Else 42, and the block: 0 settings, 1 states, 2 counts and stamps
-unfoldable pub fit_of : Words → Reply
+unfoldable pub fit_of : Words → Result ⊤ Refusal
 fit_of w =
     cond (is_block w.settings)
-    (cond (eqb (length w.states) states_size) (cond (eqb (length w.marks) marks_size) Accepted (RefusedBy (no_bank 2))) (RefusedBy (no_bank 1)))
-    (RefusedBy (no_bank 0))
+    (cond (eqb (length w.states) states_size) (cond (eqb (length w.marks) marks_size) (Ok tt) (Err (no_bank 2))) (Err (no_bank 1)))
+    (Err (no_bank 0))
 
 -- ---- the bank that they stand for
 

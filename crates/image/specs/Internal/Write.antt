@@ -1,5 +1,5 @@
 -- The image of settings, and what the writer leaves in a lent buffer.
-use Rattle.std.specs.Prelude.{ℕ, ◌+◌, List, [], ◌∷◌, ◌++◌, Bool, ◌&&◌, cond, leb, length, drop}
+use Rattle.std.specs.Prelude.{ℕ, ◌+◌, List, [], ◌∷◌, ◌++◌, Bool, ◌&&◌, cond, leb, length, drop, Result, Ok, Err}
 use Rattle.std.proofs.Math.Seq.{slice}
 use Rattle.std.specs.Float.{binary32}
 use Rattle.std.specs.Float.Ieee.{to_bits}
@@ -20,8 +20,8 @@ use Rattle.settings.specs.declared.types.Kind.TheVariants.{Digital, Analog}
 use Rattle.settings.specs.declared.types.Form.{Form}
 use Rattle.settings.specs.declared.types.Form.TheVariants.{Digital as DigitalForm, Analog as AnalogForm}
 use Rattle.settings.specs.declared.types.Settings.{Settings}
-use Rattle.image.specs.declared.write.Written.{Written}
-use Rattle.image.specs.declared.write.Written.TheVariants.{Length, Refused}
+use Rattle.settings.specs.declared.refusals.Refusal.{Refusal}
+use Rattle.settings.specs.declared.refusals.Reason.TheVariants.{ImageTooLong}
 
 abbrev pub severity_words : Severities → List ℕ
 severity_words s = s.hh ∷ s.h ∷ s.l ∷ s.ll ∷ s.rocpos ∷ s.rocneg ∷ []
@@ -73,8 +73,8 @@ unfoldable pub has_room : Counts → ℕ → Bool
 has_room counts n = are_good counts && leb (size_of_image counts) n
 
 -- the image's length, or 13
-unfoldable pub written_of : Settings → ℕ → Written
-written_of s n = cond (has_room s.counts n) (Length (length (image_of s))) (Refused (refusal 13 0))
+unfoldable pub written_of : Settings → ℕ → Result ℕ Refusal
+written_of s n = cond (has_room s.counts n) (Ok (length (image_of s))) (Err (refusal ImageTooLong 0))
 
 -- the image in front of what stood behind it; a refusal leaves every byte
 unfoldable pub image_buffer : Settings → List ℕ → List ℕ
@@ -87,8 +87,8 @@ unfoldable pub read_as : Form → List ℕ → List Alarm
 read_as form ws = placed (λ p. alarm_in form ws (alarm_at p)) 24 blanks
 
 -- the image's length, or 13; 42 where the words are no settings block
-unfoldable pub write_of : List ℕ → ℕ → Written
-write_of ws room = cond (is_block ws) (written_of (settings_in ws) room) (Refused (no_bank 0))
+unfoldable pub write_of : List ℕ → ℕ → Result ℕ Refusal
+write_of ws room = cond (is_block ws) (written_of (settings_in ws) room) (Err (no_bank 0))
 
 -- the lent buffer after it
 unfoldable pub write_buffer : List ℕ → List ℕ → List ℕ

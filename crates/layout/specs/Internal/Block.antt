@@ -2,7 +2,8 @@
 use Rattle.std.specs.Prelude.{ℕ, zero, suc, ◌+◌, ◌*◌, ◌<◌, ◌≡◌, Bool, ◌&&◌, List, [], ◌∷◌, ◌++◌, eqb, length, get_or, set, replicate}
 use Rattle.layout.specs.Internal.Sizes.{settings_size}
 use Rattle.settings.specs.Refusals.{refusal}
-use Rattle.settings.specs.declared.reply.Refusal.{Refusal}
+use Rattle.settings.specs.declared.refusals.Refusal.{Refusal}
+use Rattle.settings.specs.declared.refusals.Reason.TheVariants.{NoBank}
 use Rattle.settings.specs.Counts.{in_all, form_at}
 use Rattle.settings.specs.Alarm.{blank, blanks}
 use Rattle.settings.specs.declared.counts.Counts.{Counts}
@@ -64,4 +65,4 @@ is_block ws = eqb (length ws) settings_size && eqb (get_or ws 0 0) layout_word
 
 -- lent blocks that hold no bank. The place is the block: 0 settings, 1 states, 2 counts and stamps
 abbrev pub no_bank : ℕ → Refusal
-no_bank block = refusal 42 block
+no_bank block = refusal NoBank block

@@ -1,9 +1,8 @@
 -- The report of the alarm with a number.
-use Rattle.std.specs.Prelude.{ℕ, ◌-◌, ◌*◌, Bool, ◌&&◌, cond, leb, get_or}
+use Rattle.std.specs.Prelude.{ℕ, ◌-◌, ◌*◌, Bool, ◌&&◌, cond, leb, get_or, Ok}
 use Rattle.settings.specs.Counts.{are_good, in_all}
 use Rattle.settings.specs.Alarm.{blank}
 use Rattle.settings.specs.declared.counts.Counts.{Counts}
-use Rattle.settings.specs.declared.reply.Reply.TheVariants.{Accepted}
 use Rattle.state.specs.Internal.Held.{fresh_state}
 use Rattle.bank.specs.Internal.Bank.{Bank}
 use Rattle.bank.specs.Internal.Words.{on_reply, fit_of, bank_in}
@@ -21,7 +20,7 @@ is_there counts n = are_good counts && (leb 1 n && leb n (in_all counts))
 unfoldable pub report_at : Bank → ℕ → AlarmReport
 report_at b place =
     record {
-      reply = Accepted;
+      reply = Ok tt;
       alarm = whole_of (get_or b.settings.alarms place blank) (get_or b.states place fresh_state) b.time;
       resettime = get_or b.marks (25 * place) 0;
       conditions = statuses_of (get_or b.settings.alarms place blank).kind b.marks (25 * place) (get_or b.states place fresh_state).flags;

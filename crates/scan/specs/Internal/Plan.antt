@@ -1,9 +1,10 @@
 -- What a scan makes of the alarms of a bank.
-use Rattle.std.specs.Prelude.{ℕ, zero, suc, ◌+◌, List, [], ◌++◌, get_or, replicate}
+use Rattle.std.specs.Prelude.{ℕ, zero, suc, ◌+◌, List, [], ◌++◌, get_or, replicate, Result, Ok, Err}
 use Rattle.std.specs.Int.Count.{ones}
 use Rattle.layout.specs.Internal.Block.{placed}
 use Rattle.settings.specs.Counts.{in_all, form_at}
 use Rattle.settings.specs.Alarm.{blank}
+use Rattle.settings.specs.declared.refusals.Refusal.{Refusal}
 use Rattle.settings.specs.declared.counts.Counts.{Counts}
 use Rattle.settings.specs.declared.types.Alarm.{Alarm}
 use Rattle.settings.specs.declared.types.Form.{Form}
@@ -13,14 +14,13 @@ use Rattle.sweep.specs.Internal.Step.{step_of}
 use Rattle.event.specs.Event.{Event}
 use Rattle.scan_record.specs.Entry.{entry_at}
 use Rattle.scan_record.specs.declared.entry.Entry.{Entry}
-use Rattle.scan_record.specs.declared.entry.Entry.TheVariants.{Read, Refused}
 use Rattle.scan_record.specs.Part.{offset_of}
 use Rattle.sweep.specs.Internal.Sweep.{alarm_events}
 
 -- an alarm is stepped with its part of the record; one that is refused, which no checked record has, changes nothing
-abbrev pub step_entry : Entry → Alarm → State → ℕ → Stepped
-step_entry (Read x word next) a s time = step_of a s x word time
-step_entry (Refused r) a s time = record { state = s; events = 0 }
+abbrev pub step_entry : Result Entry Refusal → Alarm → State → ℕ → Stepped
+step_entry (Ok e) a s time = step_of a s e.reading e.word time
+step_entry (Err r) a s time = record { state = s; events = 0 }
 
 unfoldable pub step_part : Form → List ℕ → ℕ → ℕ → Alarm → State → ℕ → Stepped
 step_part form rec at number a s time = step_entry (entry_at form rec at number) a s time

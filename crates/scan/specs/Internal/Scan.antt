@@ -1,9 +1,9 @@
 -- One scan of a bank: the answer, the bank after it, and the lent event buffer.
-use Rattle.std.specs.Prelude.{ℕ, ◌*◌, List, ◌++◌, Bool, cond, ltb, length, get_or, drop}
+use Rattle.std.specs.Prelude.{ℕ, ◌*◌, List, ◌++◌, Bool, cond, ltb, length, get_or, drop, Result, Ok, Err, ⊤}
 use Rattle.settings.specs.Counts.{in_all}
 use Rattle.settings.specs.Refusals.{refusal}
-use Rattle.settings.specs.declared.reply.Refusal.{Refusal}
-use Rattle.settings.specs.declared.reply.Reply.{Reply}
+use Rattle.settings.specs.declared.refusals.Refusal.{Refusal}
+use Rattle.settings.specs.declared.refusals.Reason.TheVariants.{EventsTooLong}
 use Rattle.event.specs.Event.{Event, log_bytes}
 use Rattle.scan_record.specs.Part.{time_of}
 use Rattle.scan_record.specs.Check.{check_record}
@@ -13,21 +13,19 @@ use Rattle.state.specs.Internal.State.{starts_of}
 use Rattle.scan.specs.Internal.Plan.{Plan, plan_of, events_up_to}
 use Rattle.bank.specs.Internal.Bank.{Bank}
 use Rattle.bank.specs.Internal.Words.{on_reply}
-use Rattle.scan.specs.declared.answer.Answer.{Answer}
-use Rattle.scan.specs.declared.answer.Answer.TheVariants.{Events, Refused}
 
 -- a bank after a scan, and the answer
 pub record Scanned : Type 0 where
   pub bank : Bank
-  pub answer : Answer
+  pub answer : Result ℕ Refusal
 
 -- what is new after an accepted scan; what stood stands after a refused one
-abbrev pub if_accepted : {X : Type 0} → Answer → X → X → X
-if_accepted (Events n) new old = new
-if_accepted (Refused r) new old = old
+abbrev pub if_accepted : {X : Type 0} → Result ℕ Refusal → X → X → X
+if_accepted (Ok n) new old = new
+if_accepted (Err r) new old = old
 
 -- 7, 8, then each alarm in number order 9, 10, 11
-abbrev pub check_of : Bank → List ℕ → Reply
+abbrev pub check_of : Bank → List ℕ → Result ⊤ Refusal
 check_of b rec = check_record b.settings.counts b.time rec
 
 -- how many alarms the bank has
@@ -62,14 +60,14 @@ too_short b rec room = ltb room (16 * length (events_in b rec))
 
 -- a refusal hands back the bank
 abbrev pub refused_scan : Bank → Refusal → Scanned
-refused_scan b r = record { bank = b; answer = Refused r }
+refused_scan b r = record { bank = b; answer = Err r }
 
 -- of a checked record, given the buffer's length: 12, or the number of events and the bank after it
 unfoldable pub checked_scan : Bank → List ℕ → ℕ → Scanned
 checked_scan b rec room =
     cond (too_short b rec room)
-    (refused_scan b (refusal 12 0))
-    (record { bank = bank_after b rec; answer = Events (length (events_in b rec)) })
+    (refused_scan b (refusal EventsTooLong 0))
+    (record { bank = bank_after b rec; answer = Ok (length (events_in b rec)) })
 
 -- the event records in front of what stood behind them; a refusal leaves every byte
 unfoldable pub checked_buffer : Bank → List ℕ → List ℕ → List ℕ

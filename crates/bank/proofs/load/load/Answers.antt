@@ -8,7 +8,7 @@ unfolding load_reply load_words room_of
 returns-then-settings-ne-SETTINGS_WORDS c =
     let e = ne_eqb _ _ c.if-settings-ne-SETTINGS_WORDS.true in
     record {
-      value = simp e c.no_bank.ensures;
+      value = rw c.at.ensures (simp e);
       settings_after = simp e;
       states_after = simp e;
       marks_after = simp e;
@@ -20,7 +20,7 @@ returns-then-states-ne-STATES_WORDS c =
     let one = eq-eqb _ _ c.if-settings-ne-SETTINGS_WORDS.false in
     let two = ne_eqb _ _ c.if-states-ne-STATES_WORDS.true in
     record {
-      value = simp (one, two) c.no_bank-then-states-ne-STATES_WORDS.ensures;
+      value = rw c.at-then-states-ne-STATES_WORDS.ensures (simp (one, two));
       settings_after = simp (one, two);
       states_after = simp (one, two);
       marks_after = simp (one, two);
@@ -33,7 +33,7 @@ returns-then-marks-ne-MARKS_WORDS c =
     let two = eq-eqb _ _ c.if-states-ne-STATES_WORDS.false in
     let three = ne_eqb _ _ c.if-marks-ne-MARKS_WORDS.true in
     record {
-      value = simp (one, two, three) c.no_bank-then-marks-ne-MARKS_WORDS.ensures;
+      value = rw c.at-then-marks-ne-MARKS_WORDS.ensures (simp (one, two, three));
       settings_after = simp (one, two, three);
       states_after = simp (one, two, three);
       marks_after = simp (one, two, three);

@@ -13,7 +13,7 @@ unfolding write_of write_buffer
 returns-then-not-is_block c =
     let e = c.if-not-is_block.true in
     record {
-      value = simp (← c.is_block.ensures, e);
+      value = rw c.at.ensures (simp (← c.is_block.ensures, e));
       out_after = simp (← c.is_block.ensures, e);
     }
 

@@ -1,5 +1,5 @@
 -- `image::write::write_block` meets its contract: both sections one after the other, where there is room. Assumes nothing.
-use Rattle.image.specs.declared.write.Written.TheVariants.{Length}
+use Rattle.std.proofs.Common.{Ok}
 use Rattle.image.proofs.Images.{image-length, image-front, room, section-room}
 use Rattle.image.proofs.Blocks.{digital-same, analog-same}
 use Rattle.settings.specs.declared.types.Form.TheVariants.{Digital, Analog}
@@ -16,7 +16,7 @@ returns-then-not-has_room c =
     let h = c.has_room in
     let t = rw c.counts_in-counts.ensures at (sym h.ensures ∙ c.if-not-has_room.true) in
     record {
-      value = simp t;
+      value = rw c.at.ensures (simp t);
       out_after = simp t;
     }
 
@@ -55,6 +55,6 @@ returns c =
     let p = rw (same, digital-same ws m) at c.put_section-next.ensures in
     let q = rw (same, analog-same ws m) at c.put_section-length.ensures in
     record {
-      value = rw t (ap Length (image-length s p.value q.value));
+      value = rw t (ap Ok (image-length s p.value q.value));
       out_after = rw t (image-front s a.out.now r p.value p.out_after q.out_after);
     }

@@ -4,7 +4,7 @@ use mathlib.Core.Path.{refl, ap, ◌∙◌}
 use lib.ListN.{length}
 use lib.Seq.{sets}
 use Rattle.layout.specs.Internal.Block.{counts_in}
-use Rattle.meifgur_c.specs.Calls.{reply_number, load_fields}
+use Rattle.meifgur_c.specs.Calls.{number_in, load_words}
 use Rattle.meifgur_c.proofs.load_call.meifgur_load_words.Goals as goal
 
 pub returns-then-answer-lt-LOAD_ANSWER : goal.returns-then-answer-lt-LOAD_ANSWER
@@ -22,13 +22,12 @@ pub returns : goal.returns
 returns c =
     let a = c.args in
     let e = c.load-reply.ensures in
-    let f = c.put_loaded.ensures in
     let n = c.counts_of-counts.ensures ∙ ap counts_in e.settings_after in
     let long = le-ltb (length a.answer.now) 4 c.if-answer-lt-LOAD_ANSWER.false in
     record {
-      value = rw long (f.value ∙ ap reply_number e.value);
+      value = rw long (c.number_in.ensures ∙ ap number_in e.value);
       settings_after = rw long (e.settings_after);
       states_after = rw long (e.states_after);
       marks_after = rw long (e.marks_after);
-      answer_after = rw long (f.words_after ∙ (λ i. sets a.answer.now 0 (load_fields (e.value i) (n i))));
+      answer_after = rw long (c.put_words.ensures ∙ ap (sets a.answer.now 0) c.load_words.ensures ∙ (λ i. sets a.answer.now 0 (load_words (e.value i) (n i))));
     }

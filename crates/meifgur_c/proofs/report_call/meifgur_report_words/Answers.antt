@@ -4,7 +4,7 @@ use mathlib.Core.Path.{refl, ap, ◌∙◌}
 use lib.ListN.{length}
 use lib.Seq.{sets}
 use Rattle.report.specs.declared.report.AlarmReport.{AlarmReport}
-use Rattle.meifgur_c.specs.Calls.{reply_number, reply_words, report_out}
+use Rattle.meifgur_c.specs.Calls.{number_in, reply_words, report_out}
 use Rattle.meifgur_c.proofs.report_call.meifgur_report_words.Goals as goal
 
 pub returns-then-answer-lt-REPORT_ANSWER : goal.returns-then-answer-lt-REPORT_ANSWER
@@ -23,11 +23,10 @@ pub returns : goal.returns
 returns c =
     let a = c.args in
     let r = c.report-said.ensures in
-    let f = c.put_reply.ensures in
     let long = le-ltb (length a.answer.now) 2 c.if-answer-lt-REPORT_ANSWER.false in
     let room = le-ltb (length a.out.now) 224 c.if-out-lt-REPORT_SIZE.false in
     record {
-      value = rw (long, room) (f.value ∙ ap (λ (q : AlarmReport). reply_number q.reply) r);
+      value = rw (long, room) (c.number_in.ensures ∙ ap (λ (q : AlarmReport). number_in q.reply) r);
       out_after = rw (long, room) (c.put_said.ensures ∙ ap (λ (q : AlarmReport). report_out q a.out.now) r);
-      answer_after = rw (long, room) (f.words_after ∙ ap (λ (q : AlarmReport). sets a.answer.now 0 (reply_words q.reply)) r);
+      answer_after = rw (long, room) (c.put_words.ensures ∙ ap (sets a.answer.now 0) (c.reply_words.ensures ∙ ap (λ (q : AlarmReport). reply_words q.reply) r));
     }

@@ -1,31 +1,48 @@
 -- `reader::read::read` meets its contract: the digital section has at most 12 alarms, then the rest. Assumes nothing.
+use mathlib.Core.Path.{sym, ◌∙◌}
+use borrow.Author.Tests.{lt-ltb, le-ltb}
+use Rattle.std.proofs.lemmas.Result.{err_from_is_err_and}
+use Rattle.reader.specs.Read.{read_of, rest_of}
 use Rattle.reader.proofs.Sections.{section-most}
-use Rattle.reader.specs.declared.section.Filled.{Filled}
-use Rattle.reader.specs.Read.{read_of}
-use mathlib.Core.Path.{sym, ap, ◌∙◌}
 use Rattle.reader.proofs.read.read.Goals as goal
 
-pub read_rest-requires : goal.read_rest-requires
-read_rest-requires c =
-    section-most _ _ _ _ _
-    (sym (ap (λ (f : Filled). f.section) c.section_at-filled.ensures) ∙ c.in-Read.is)
-
-pub returns-in-Refused : goal.returns-in-Refused
+pub returns-in_err-digital : goal.returns-in_err-digital
 unfolding read_of
-returns-in-Refused c =
+returns-in_err-digital c =
+    let p = err_from_is_err_and c.from_residual.result c.from_residual.ensures.1 in
+    rw (p.1, p.2) (simp (← c.blank_alarms.ensures, sym c.section_at.ensures ∙ c.in_err-digital.was))
+
+pub section_at-requires-2 : goal.section_at-requires-2
+section_at-requires-2 c = section-most _ _ _ _ _ (sym c.section_at.ensures ∙ c.in_ok-digital.was)
+
+pub returns-in_err-analog : goal.returns-in_err-analog
+unfolding read_of rest_of
+returns-in_err-analog c =
+    let p = err_from_is_err_and c.from_residual-in_err-analog.result c.from_residual-in_err-analog.ensures.1 in
+    rw (p.1, p.2)
+    (simp (
+      ← c.blank_alarms.ensures,
+      sym c.section_at.ensures ∙ c.in_ok-digital.was,
+      sym c.section_at-2.ensures ∙ c.in_err-analog.was,
+    ))
+
+pub returns-then-end-image : goal.returns-then-end-image
+unfolding read_of rest_of
+returns-then-end-image c =
+    rw c.at.ensures
+    (simp (
+      ← c.blank_alarms.ensures,
+      sym c.section_at.ensures ∙ c.in_ok-digital.was,
+      sym c.section_at-2.ensures ∙ c.in_ok-analog.was,
+      lt-ltb _ _ c.if-end-image.true,
+    ))
+
+pub returns : goal.returns
+unfolding read_of rest_of
+returns c =
     simp (
       ← c.blank_alarms.ensures,
-      ← c.section_at-filled.ensures,
-      c.in-Refused.is,
-      ← c.refused.ensures,
-    )
-
-pub returns-in-Read : goal.returns-in-Read
-unfolding read_of
-returns-in-Read c =
-    simp (
-      ← c.blank_alarms.ensures,
-      ← c.section_at-filled.ensures,
-      c.in-Read.is,
-      ← c.read_rest.ensures,
+      sym c.section_at.ensures ∙ c.in_ok-digital.was,
+      sym c.section_at-2.ensures ∙ c.in_ok-analog.was,
+      le-ltb _ _ c.if-end-image.false,
     )

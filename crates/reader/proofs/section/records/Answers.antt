@@ -1,35 +1,33 @@
--- `reader::section::records` meets its contract: the invariant: reading on from here gives what reading from the first place gives. The
--- measure is the places left. Assumes nothing.
-use borrow.Author.Rules.{rules}
-use mathlib.Core.Path.{refl, sym, ap, ◌∙◌}
-use native.Mathlib.Omega.{arith}
+-- `reader::section::records` meets its contract. Assumes nothing.
+use mathlib.Core.Path.{◌≡◌, sym, ap, ◌∙◌}
 use Prim.Native.Nat.{ℕ, ◌-◌}
+use native.Mathlib.Omega.{arith}
+use Rattle.std.proofs.lemmas.Result.{err_from_is_err_and}
 use Rattle.reader.specs.Section.{records_from}
 use Rattle.reader.proofs.Sections.{records-next, records-stop, records-end}
 use Rattle.reader.proofs.section.records.Goals as goal
 
-pub loop-place-init : goal.loop-place-init
-loop-place-init c = (c.requires.first_le_end, refl)
+pub returns-in_err-alarm : goal.returns-in_err-alarm
+returns-in_err-alarm c =
+    let a = c.args in
+    let l = c.loop-place in
+    let found = sym c.record_at.ensures ∙ c.in_err-alarm.was in
+    let p = err_from_is_err_and c.from_residual.result c.from_residual.ensures.1 in
+    rw (p.1, p.2) (sym (records-stop a.form a.image.now (a.end - a.first) l.next l.alarms c.loop-place-test.true found) ∙ l.invariant)
 
 pub loop-place-preserved : goal.loop-place-preserved
 loop-place-preserved c =
     let a = c.args in
     let l = c.loop-place in
-    let found = sym c.record_at.ensures ∙ c.in-Alarm.is in
-    (search rules, sym (records-next a.form a.image.now (a.end - a.first) l.next l.alarms (omega arith) found) ∙ l.invariant.1)
+    let found = sym c.record_at.ensures ∙ c.in_ok-alarm.was in
+    sym (records-next a.form a.image.now (a.end - a.first) l.next l.alarms c.loop-place-test.true found) ∙ l.invariant
 
-pub returns-then-place-end : goal.returns-then-place-end
-returns-then-place-end c =
+pub returns : goal.returns
+returns c =
     let a = c.args in
     let l = c.loop-place in
     let n = a.end - a.first in
+    let end : l.place ≡ a.end = omega arith in
     sym (records-end a.form a.image.now n l.place l.next l.alarms)
-    ∙ ap (λ (k : ℕ). records_from a.form a.image.now n (k - l.place) l.place l.next l.alarms) c.if-place-end.true
-    ∙ l.invariant.1
-
-pub returns-in-Refused : goal.returns-in-Refused
-returns-in-Refused c =
-    let a = c.args in
-    let l = c.loop-place in
-    let found = sym c.record_at.ensures ∙ c.in-Refused.is in
-    sym (records-stop a.form a.image.now (a.end - a.first) l.next l.alarms (omega arith) found) ∙ l.invariant.1
+    ∙ ap (λ (k : ℕ). records_from a.form a.image.now n (k - l.place) l.place l.next l.alarms) end
+    ∙ l.invariant

@@ -1,30 +1,30 @@
 -- `reader::section::section_at` meets its contract: a count of at most 12 leaves room for its alarms. Assumes nothing.
-use Rattle.reader.specs.Section.{records_from}
+use mathlib.Core.Path.{sym, ap, ◌∙◌}
 use Prim.Native.Nat.{ℕ}
 use native.Mathlib.Nat.{add-sub_cancel_left}
-use Rattle.reader.proofs.Sections.{count-read}
-use Rattle.reader.specs.Section.{section_at}
 use native.Mathlib.Omega.{arith}
-use mathlib.Core.Path.{sym, ap, ◌∙◌}
+use Rattle.std.proofs.lemmas.Result.{err_from_is_err_and}
+use Rattle.reader.specs.Section.{records_from, section_at}
+use Rattle.reader.proofs.Sections.{count-read}
 use Rattle.reader.proofs.section.section_at.Goals as goal
 
+pub returns-in_err-n : goal.returns-in_err-n
+unfolding section_at
+returns-in_err-n c =
+    let p = err_from_is_err_and c.from_residual.result c.from_residual.ensures.1 in
+    rw (p.1, p.2) (simp (sym c.count_at.ensures ∙ c.in_err-n.was))
+
 pub overflow_add-first : goal.overflow_add-first
-overflow_add-first c = omega (arith, (count-read _ _ (sym c.count_at.ensures ∙ c.in-Alarms.is)).most)
+overflow_add-first c = omega (arith, (count-read _ _ (sym c.count_at.ensures ∙ c.in_ok-n.was)).most)
 
-pub records-requires : goal.records-requires
-records-requires c =
-    let most = (count-read _ _ (sym c.count_at.ensures ∙ c.in-Alarms.is)).most in
-    record { first_le_end = omega arith; end_le_all_most = omega arith }
+pub records-requires-clause-end_le_all_most : goal.records-requires-clause-end_le_all_most
+records-requires-clause-end_le_all_most c = omega (arith, (count-read _ _ (sym c.count_at.ensures ∙ c.in_ok-n.was)).most)
 
-pub returns-in-Refused : goal.returns-in-Refused
+pub returns : goal.returns
 unfolding section_at
-returns-in-Refused c = simp (sym c.count_at.ensures ∙ c.in-Refused.is)
-
-pub returns-in-Alarms : goal.returns-in-Alarms
-unfolding section_at
-returns-in-Alarms c =
+returns c =
     let a = c.args in
-    let g = c.in-Alarms in
-    simp (sym c.count_at.ensures ∙ g.is)
+    let g = c.in_ok-n in
+    simp (sym c.count_at.ensures ∙ g.was)
     (c.records.ensures
     ∙ ap (λ (k : ℕ). records_from a.form a.image.now k k a.first g.next a.given) (add-sub_cancel_left a.first g.n))

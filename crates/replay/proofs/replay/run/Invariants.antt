@@ -1,16 +1,16 @@
--- `replay::replay::run` meets its contract: the invariant: words, tally and buffer are those after the records so far, and the next one
--- begins here. The measure is the bytes left. Assumes nothing.
-use Prim.Native.Nat.{◌-◌}
-use lib.ListN.{length}
+-- `replay::replay::run` meets its contract: the invariant: words, tally and buffer are those after the records so far, and the chunks left are
+-- those of the bytes behind them. Assumes nothing.
 use Rattle.bank.specs.Internal.Words.{words_in}
 use Rattle.replay.specs.Replay.{Progress}
 use Rattle.replay.proofs.Runs.{Going}
 use Rattle.replay.proofs.replay.run.Given as goal
 
-abbrev pub invariant-loop-at : goal.invariant-loop-at
-invariant-loop-at l =
+abbrev pub invariant-loop-index : goal.invariant-loop-index
+invariant-loop-index l =
+    let chunks = l.index-iterator.iter in
     let now : Progress = record { words = words_in l.settings l.states l.marks; tally = l.done; buffer = l.out } in
-    Going (words_in l.settings l.initial.states l.initial.marks) l.bytes l.initial.out l.size now l.index l.at
-
-abbrev pub decreases-loop-at : goal.decreases-loop-at
-decreases-loop-at l = length l.bytes - l.at
+    record {
+      can : (goal.iterator-loop-index).can_next l.index-iterator;
+      finite : (goal.iterator-loop-index).is_finite l.index-iterator;
+      going : Going (words_in l.settings l.initial.states l.initial.marks) l.bytes l.initial.out chunks.size now l.index-iterator.count chunks.rest.now;
+    }

@@ -30,4 +30,4 @@ pub returns-else-is_there : goal.returns-else-is_there
 unfolding report_of bank_in settings_in no_report
 returns-else-is_there c =
     let t = rw c.counts_in.ensures at (sym c.is_there.ensures ∙ c.if-is_there.false) in
-    c.refused_report.ensures ∙ rw t
+    rw (c.refused_report.ensures, c.at.ensures, t)

@@ -1,16 +1,17 @@
 -- `scan::scan::scan_short` meets its contract: the copies are the words, and what is taken over is what they became. Assumes nothing.
-use mathlib.Core.Path.{◌≡◌, ap, ◌∙◌}
-use mathlib.Core.List.{List}
+use mathlib.Core.Path.{◌≡◌, sym, ap, ◌∙◌}
+use mathlib.Core.List.{List, ◌++◌}
 use Prim.Native.Nat.{ℕ, ◌/◌, ◌≤◌, ◌<◌}
 use native.Mathlib.Omega.{arith}
-use lib.ListN.{length, take}
-use lib.Seq.{sets}
+use lib.ListN.{length, take, drop}
+use lib.Seq.{length-take-le}
 use Rattle.bank.specs.Lent.{Words}
 use Rattle.bank.specs.Internal.Words.{words_in}
-use Rattle.sweep.specs.Internal.Sweep.{log_after, words_after}
+use Rattle.settings.specs.declared.counts.Counts.{Counts}
+use Rattle.sweep.specs.Internal.Sweep.{Ready, log_after, words_after}
 use Rattle.sweep.proofs.Room.{room_after}
-use Rattle.scan.specs.declared.answer.Answer.TheVariants.{Events}
-use Rattle.scan.proofs.Copies.{front-taken}
+use Rattle.std.proofs.Common.{Ok}
+use Rattle.wire.proofs.Front.{front-taken, front-put}
 use Rattle.scan.proofs.Checked.{roomy-answer, roomy-words, roomy-out, short-answer, short-words, short-out}
 use Rattle.scan.proofs.scan.scan_short.Goals as goal
 
@@ -21,8 +22,8 @@ scan_alarms-used-requires c =
       ready = record {
         most = r.most;
         settings-long = r.settings-long;
-        states-long = ap length c.copy_words.ensures ∙ r.states-long;
-        marks-long = ap length c.copy_words-2.ensures ∙ r.marks-long;
+        states-long = ap length c.copy_from_slice.ensures.after ∙ r.states-long;
+        marks-long = ap length c.copy_from_slice-2.ensures.after ∙ r.marks-long;
         counts-are = r.counts-are;
         record-long = r.record-long;
       };
@@ -34,33 +35,50 @@ returns-then-out-used c =
     let a = c.args in
     let rec : List ℕ = a.bytes.now in
     let w : Words = words_in a.settings.now a.states.now a.marks.now in
-    let copied : words_in a.settings.now _ _ ≡ w = λ i. words_in a.settings.now (c.copy_words.ensures i) (c.copy_words-2.ensures i) in
+    let copied : words_in a.settings.now _ _ ≡ w = λ i. words_in a.settings.now (c.copy_from_slice.ensures.after i) (c.copy_from_slice-2.ensures.after i) in
     let used = c.scan_alarms-used.ensures.value ∙ ap (λ (v : Words). length (log_after v rec)) copied in
     let room = length a.out.now in
     let h : room < length (log_after w rec) = omega (arith, c.if-out-used.true, used) in
     let left = short-words w rec room h in
     record {
-      value = c.too_long.ensures ∙ short-answer w rec room h;
+      value = rw c.at.ensures (short-answer w rec room h);
       states_after = ap (λ (v : Words). v.states) left;
       marks_after = ap (λ (v : Words). v.marks) left;
       out_after = short-out w rec a.out.now h;
     }
 
-pub copy_bytes-requires : goal.copy_bytes-requires
-copy_bytes-requires c =
+-- the buffer that a step is lent suffices for its events
+enough : (w v : Words) (rec : List ℕ) {counts : Counts} {used : ℕ} → v ≡ w → used ≡ length (log_after v rec) → Ready w rec counts → used ≤ 3840
+enough w v rec e u r = omega (arith, u, ap (λ (x : Words). length (log_after x rec)) e, room_after w rec r, r.most)
+
+pub slice_bounds-events-end : goal.slice_bounds-events-end
+slice_bounds-events-end c =
     let a = c.args in
-    let rec : List ℕ = a.bytes.now in
-    let w : Words = words_in a.settings.now a.states.now a.marks.now in
-    let copied : words_in a.settings.now _ _ ≡ w = λ i. words_in a.settings.now (c.copy_words.ensures i) (c.copy_words-2.ensures i) in
-    let used = c.scan_alarms-used.ensures.value ∙ ap (λ (v : Words). length (log_after v rec)) copied in
-    (omega (arith, used, room_after w rec c.requires, c.requires.most), omega (arith, c.if-out-used.false))
+    let copied : words_in a.settings.now _ _ ≡ words_in a.settings.now a.states.now a.marks.now
+    = λ i. words_in a.settings.now (c.copy_from_slice.ensures.after i) (c.copy_from_slice-2.ensures.after i) in
+    omega (arith, enough _ _ a.bytes.now copied c.scan_alarms-used.ensures.value c.requires)
+
+pub slice_bounds-copy_from_slice-end-7 : goal.slice_bounds-copy_from_slice-end-7
+slice_bounds-copy_from_slice-end-7 c =
+    let a = c.args in
+    let copied : words_in a.settings.now _ _ ≡ words_in a.settings.now a.states.now a.marks.now
+    = λ i. words_in a.settings.now (c.copy_from_slice.ensures.after i) (c.copy_from_slice-2.ensures.after i) in
+    sym (length-take-le _ _ (omega (arith, enough _ _ a.bytes.now copied c.scan_alarms-used.ensures.value c.requires)))
+
+pub copy_from_slice-requires-5 : goal.copy_from_slice-requires-5
+copy_from_slice-requires-5 c =
+    let a = c.args in
+    let copied : words_in a.settings.now _ _ ≡ words_in a.settings.now a.states.now a.marks.now
+    = λ i. words_in a.settings.now (c.copy_from_slice.ensures.after i) (c.copy_from_slice-2.ensures.after i) in
+    length-take-le _ _ c.if-out-used.false
+    ∙ sym (length-take-le _ _ (omega (arith, enough _ _ a.bytes.now copied c.scan_alarms-used.ensures.value c.requires)))
 
 pub returns : goal.returns
 returns c =
     let a = c.args in
     let rec : List ℕ = a.bytes.now in
     let w : Words = words_in a.settings.now a.states.now a.marks.now in
-    let copied : words_in a.settings.now _ _ ≡ w = λ i. words_in a.settings.now (c.copy_words.ensures i) (c.copy_words-2.ensures i) in
+    let copied : words_in a.settings.now _ _ ≡ w = λ i. words_in a.settings.now (c.copy_from_slice.ensures.after i) (c.copy_from_slice-2.ensures.after i) in
     let e = c.scan_alarms-used.ensures in
     let logged = ap (λ (v : Words). log_after v rec) copied in
     let used = e.value ∙ ap length logged in
@@ -73,9 +91,10 @@ returns c =
     ∙ front-taken _ _ e.value (omega (arith, ap length logged, most, c.requires.most))
     ∙ logged in
     record {
-      value = ap (λ (k : ℕ). Events (k / 16)) used ∙ roomy-answer w rec room h;
-      states_after = c.copy_words-3.ensures ∙ e.states_after
+      value = ap (λ (k : ℕ). Ok (k / 16)) used ∙ roomy-answer w rec room h;
+      states_after = c.copy_from_slice-3.ensures.after ∙ e.states_after
           ∙ ap (λ (v : Words). v.states) after;
-      marks_after = c.copy_words-4.ensures ∙ e.marks_after ∙ ap (λ (v : Words). v.marks) after;
-      out_after = c.copy_bytes.ensures ∙ ap (sets a.out.now 0) front ∙ roomy-out w rec a.out.now h;
+      marks_after = c.copy_from_slice-4.ensures.after ∙ e.marks_after ∙ ap (λ (v : Words). v.marks) after;
+      out_after = (λ i. (c.copy_from_slice-5.ensures.after ∙ front) i ++ drop (used i) a.out.now) ∙ front-put a.out.now (log_after w rec) h
+          ∙ roomy-out w rec a.out.now h;
     }

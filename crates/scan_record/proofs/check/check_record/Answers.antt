@@ -8,7 +8,7 @@ use Rattle.scan_record.proofs.check.check_record.Goals as goal
 
 pub returns-then-not-is_whole : goal.returns-then-not-is_whole
 unfolding check_record
-returns-then-not-is_whole c = simp (← c.is_whole.ensures, c.if-not-is_whole.true)
+returns-then-not-is_whole c = rw c.at.ensures (simp (← c.is_whole.ensures, c.if-not-is_whole.true))
 
 pub get_u64-requires : goal.get_u64-requires
 get_u64-requires c =
@@ -19,7 +19,7 @@ pub returns-then-get_u64-last : goal.returns-then-get_u64-last
 unfolding check_record
 returns-then-get_u64-last c =
     let w = c.is_whole in
-    simp (← w.ensures, c.if-not-is_whole.false, ← c.get_u64.ensures, lt-ltb _ _ c.if-get_u64-last.true)
+    rw c.at-then-get_u64-last.ensures (simp (← w.ensures, c.if-not-is_whole.false, ← c.get_u64.ensures, lt-ltb _ _ c.if-get_u64-last.true))
 
 pub check_alarms-requires : goal.check_alarms-requires
 check_alarms-requires c =

@@ -1,27 +1,24 @@
 -- `scan_record::entry::analog_entry` meets its contract: each return takes the case that its tests led to. Assumes nothing.
 use Rattle.settings.specs.Refusals.{checked}
 use Rattle.scan_record.specs.Entry.{entry_at}
-use mathlib.Core.Path.{◌∙◌}
 use Rattle.scan_record.proofs.entry.analog_entry.Goals as goal
 
 pub returns-then-is_beyond : goal.returns-then-is_beyond
 unfolding entry_at checked
 returns-then-is_beyond c =
-    c.refuse.ensures
-    ∙ simp (← c.get_u32-pattern.ensures, ← c.is_bounded_pattern-within.ensures, c.if-is_beyond.true)
+    rw c.at.ensures (simp (← c.get_u32-pattern.ensures, ← c.is_bounded_pattern-within.ensures, c.if-is_beyond.true))
 
 pub returns-then-not-is_command : goal.returns-then-not-is_command
 unfolding entry_at checked
 returns-then-not-is_command c =
-    c.refuse-then-not-is_command.ensures
-    ∙ simp (
+    rw c.at-then-not-is_command.ensures (simp (
       ← c.get_u32-pattern.ensures,
       ← c.is_bounded_pattern-within.ensures,
       c.if-is_beyond.false,
       ← c.get_u32-word.ensures,
       ← c.is_command.ensures,
       c.if-not-is_command.true,
-    )
+    ))
 
 pub returns : goal.returns
 unfolding entry_at checked

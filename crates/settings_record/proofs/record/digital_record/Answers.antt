@@ -1,5 +1,4 @@
 -- `settings_record::record::digital_record` meets its contract: each return takes the case that its tests led to. Assumes nothing.
-use mathlib.Core.Path.{◌∙◌}
 use Rattle.settings_record.specs.Record.{fields_at}
 use Rattle.settings.specs.Refusals.{checked}
 use borrow.Author.Tests.{le-ltb, lt-ltb, le-leb, lt-leb}
@@ -7,13 +6,12 @@ use Rattle.settings_record.proofs.record.digital_record.Goals as goal
 
 pub returns-then-flags-ge-DIGITAL_FLAGS : goal.returns-then-flags-ge-DIGITAL_FLAGS
 unfolding checked fields_at
-returns-then-flags-ge-DIGITAL_FLAGS c = c.refuse.ensures ∙ simp (le-ltb _ _ c.if-flags-ge-DIGITAL_FLAGS.true)
+returns-then-flags-ge-DIGITAL_FLAGS c = rw c.at.ensures (simp (le-ltb _ _ c.if-flags-ge-DIGITAL_FLAGS.true))
 
 pub returns-then-duration-gt2147483647 : goal.returns-then-duration-gt2147483647
 unfolding checked fields_at
 returns-then-duration-gt2147483647 c =
-    c.refuse-then-duration-gt2147483647.ensures
-    ∙ simp (lt-ltb _ _ c.if-flags-ge-DIGITAL_FLAGS.false, ← c.get_u32-duration.ensures, lt-leb _ _ c.if-duration-gt2147483647.true)
+    rw c.at-then-duration-gt2147483647.ensures (simp (lt-ltb _ _ c.if-flags-ge-DIGITAL_FLAGS.false, ← c.get_u32-duration.ensures, lt-leb _ _ c.if-duration-gt2147483647.true))
 
 pub returns : goal.returns
 unfolding checked fields_at

@@ -13,8 +13,7 @@ use Rattle.settings_record.proofs.record.record_at.Goals as goal
 pub returns-then-not-has : goal.returns-then-not-has
 unfolding record_at checked
 returns-then-not-has c =
-    c.refuse.ensures
-    ∙ simp (← c.record_size.ensures, ← c.has.ensures, c.if-not-has.true)
+    rw c.at.ensures (simp (← c.record_size.ensures, ← c.has.ensures, c.if-not-has.true))
 
 -- the record is there whole
 there : {r : Bool} {size : ℕ} (form : Form) (at len : ℕ) → size ≡ size_of form → r ≡ leb (at + size) len → r ≡ true → at + size_of form ≤ len
