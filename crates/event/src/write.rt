@@ -10,7 +10,7 @@ ghost use Rattle.wire.specs.Internal.Places.{first_condition, word_bits, conditi
 use crate::slot::{condition_at, severity_at};
 use settings::severity::acting_severity;
 use settings::types::Form;
-use wire::number::put_u64;
+use wire::number::LittleEndian;
 use wire::places::CONDITIONS;
 
 // Bytes of a record.
@@ -48,8 +48,8 @@ fn put_record(out: &mut [u8], at: usize, head: u64, time: u64)
     requires { at + 16 ≤ length out.old }
     ensures { out.new ≡ sets out.old at (bytes 8 head ++ bytes 8 time) }
 {
-    put_u64(out, at, head);
-    put_u64(out, at + 8, time);
+    head.put(out, at);
+    time.put(out, at + 8);
 }
 
 // A record if bit 0 of the word is set; the offset past it.

@@ -6,7 +6,7 @@ ghost use Rattle.host_bytes.specs.Bytes.{flag, row_bytes, whole_row, status_row,
 use report::report::AlarmReport;
 use report::status::Status;
 use report::whole::Whole;
-use wire::number::{put_u8, put_u32, put_u64};
+use wire::number::LittleEndian;
 use wire::real::to_pattern;
 
 // Bytes of a row, and of a report.
@@ -37,10 +37,10 @@ fn put_flags(out: &mut [u8], at: usize, a: bool, b: bool, c: bool, d: bool)
     requires { at + 4 ≤ length out.old }
     ensures { out.new ≡ sets out.old at (flag a ∷ flag b ∷ flag c ∷ flag d ∷ []) }
 {
-    put_u8(out, at, one(a));
-    put_u8(out, at + 1, one(b));
-    put_u8(out, at + 2, one(c));
-    put_u8(out, at + 3, one(d));
+    out[at] = one(a);
+    out[at + 1] = one(b);
+    out[at + 2] = one(c);
+    out[at + 3] = one(d);
 }
 
 fn put_row(out: &mut [u8], at: usize, row: Row)
@@ -48,10 +48,10 @@ fn put_row(out: &mut [u8], at: usize, row: Row)
     ensures { out.new ≡ sets out.old at (row_bytes row) }
 {
     put_flags(out, at, row.one, row.two, row.three, row.four);
-    put_u32(out, at + 4, row.number);
-    put_u64(out, at + 8, row.first);
-    put_u64(out, at + 16, row.second);
-    put_u64(out, at + 24, row.third);
+    row.number.put(out, at + 4);
+    row.first.put(out, at + 8);
+    row.second.put(out, at + 16);
+    row.third.put(out, at + 24);
 }
 
 // What is said of a whole alarm.

@@ -22,8 +22,7 @@ use settings_record::fields::{
     LIMIT_L, LIMIT_LL, LIMIT_ROCNEG, LIMIT_ROCPOS, PERIOD, SEVERITY, SEVERITY_H, SEVERITY_HH,
     SEVERITY_L, SEVERITY_LL, SEVERITY_ROCNEG, SEVERITY_ROCPOS,
 };
-use wire::number::{put_u8, put_u32};
-use wire::real::put_real;
+use wire::number::LittleEndian;
 
 // The bytes of the two counts.
 const COUNTS: usize = 2;
@@ -42,34 +41,34 @@ fn put_severities(out: &mut [u8], at: usize, s: Severities)
     requires { at + size_of Form.Analog ≤ length out.old }
     ensures { out.new ≡ sets out.old (word_place at 0) (words (severity_words s)) }
 {
-    put_u32(out, at + SEVERITY_HH, s.hh);
-    put_u32(out, at + SEVERITY_H, s.h);
-    put_u32(out, at + SEVERITY_L, s.l);
-    put_u32(out, at + SEVERITY_LL, s.ll);
-    put_u32(out, at + SEVERITY_ROCPOS, s.rocpos);
-    put_u32(out, at + SEVERITY_ROCNEG, s.rocneg);
+    s.hh.put(out, at + SEVERITY_HH);
+    s.h.put(out, at + SEVERITY_H);
+    s.l.put(out, at + SEVERITY_L);
+    s.ll.put(out, at + SEVERITY_LL);
+    s.rocpos.put(out, at + SEVERITY_ROCPOS);
+    s.rocneg.put(out, at + SEVERITY_ROCNEG);
 }
 
 fn put_limits(out: &mut [u8], at: usize, g: Limits)
     requires { at + size_of Form.Analog ≤ length out.old }
     ensures { out.new ≡ sets out.old (word_place at 6) (words (limit_words g)) }
 {
-    put_real(out, at + LIMIT_HH, g.hh);
-    put_real(out, at + LIMIT_H, g.h);
-    put_real(out, at + LIMIT_L, g.l);
-    put_real(out, at + LIMIT_LL, g.ll);
-    put_real(out, at + DEADBAND, g.deadband);
-    put_real(out, at + LIMIT_ROCPOS, g.rocpos);
-    put_real(out, at + LIMIT_ROCNEG, g.rocneg);
+    g.hh.put(out, at + LIMIT_HH);
+    g.h.put(out, at + LIMIT_H);
+    g.l.put(out, at + LIMIT_L);
+    g.ll.put(out, at + LIMIT_LL);
+    g.deadband.put(out, at + DEADBAND);
+    g.rocpos.put(out, at + LIMIT_ROCPOS);
+    g.rocneg.put(out, at + LIMIT_ROCNEG);
 }
 
 fn put_digital(out: &mut [u8], at: usize, flags: u8, severity: u32, duration: u32)
     requires { at + size_of Form.Digital ≤ length out.old }
     ensures { out.new ≡ sets out.old at (digital_bytes flags severity duration) }
 {
-    put_u8(out, at, flags);
-    put_u32(out, at + SEVERITY, severity);
-    put_u32(out, at + DIGITAL_DURATION, duration);
+    out[at] = flags;
+    severity.put(out, at + SEVERITY);
+    duration.put(out, at + DIGITAL_DURATION);
 }
 
 fn put_analog(
@@ -84,11 +83,11 @@ fn put_analog(
     requires { at + size_of Form.Analog ≤ length out.old }
     ensures { out.new ≡ sets out.old at (analog_bytes flags g s period duration) }
 {
-    put_u8(out, at, flags);
+    out[at] = flags;
     put_severities(out, at, s);
     put_limits(out, at, g);
-    put_u32(out, at + PERIOD, period);
-    put_u32(out, at + ANALOG_DURATION, duration);
+    period.put(out, at + PERIOD);
+    duration.put(out, at + ANALOG_DURATION);
 }
 
 // Writes an alarm's record and answers the offset past it.
@@ -163,7 +162,7 @@ fn put_section(
     ensures value { result ≡ at + length (section_bytes form first count (read_as form words.now)) }
     ensures out_after { out.new ≡ sets out.old at (section_bytes form first count (read_as form words.now)) }
 {
-    put_u8(out, at, count as u8);
+    out[at] = count as u8;
     put_records(out, at + 1, form, first, first + count, words)
 }
 

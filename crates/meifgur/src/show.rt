@@ -11,7 +11,7 @@ use settings::counts::ALARMS;
 use settings::reply::{Refusal, Reply};
 use text::output::{TEXT_SIZE, add_byte};
 use text::show::add_form;
-use wire::number::{get_u16, get_u64};
+use wire::number::LittleEndian;
 
 fn wide(byte: u8) -> u64 {
     byte as u64
@@ -27,11 +27,11 @@ fn add_event(
     requires { 16 ≤ length event.now }
 {
     let numbers = [
-        get_u64(event, 8),
+        u64::get(event, 8),
         wide(event[0]),
         wide(event[1]),
         wide(event[2]),
-        get_u16(event, 4) as u64,
+        u16::get(event, 4) as u64,
         wide(event[3]),
     ];
     add_form(rt, text, waiting, b"A B C D E F\n", &numbers)

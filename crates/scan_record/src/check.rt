@@ -13,7 +13,7 @@ use settings::counts::{Counts, are_good, in_all};
 use settings::refusals::{EARLIER_TIME, WRONG_LENGTH};
 use settings::reply::{Refusal, Reply};
 use settings::types::Form;
-use wire::number::get_u64;
+use wire::number::LittleEndian;
 
 fn length_of(counts: Counts) -> usize
     requires { Few counts }
@@ -88,7 +88,7 @@ pub fn check_record(bytes: &[u8], counts: Counts, last: u64) -> Reply
             place: 0,
         });
     }
-    if get_u64(bytes, 0) < last {
+    if u64::get(bytes, 0) < last {
         return Reply::Refused(Refusal {
             number: EARLIER_TIME,
             place: 0,

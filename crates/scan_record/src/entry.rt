@@ -13,7 +13,7 @@ use crate::part::{ANALOG_PART, ANALOG_WORD, DIGITAL_PART, DIGITAL_WORD};
 use settings::refusals::{BAD_REAL, NOT_A_BIT, UNKNOWN_COMMAND};
 use settings::reply::Refusal;
 use settings::types::{Form, Reading};
-use wire::number::get_u32;
+use wire::number::LittleEndian;
 use wire::real::from_pattern;
 
 // The decoded reading, the command word and the offset past them, or the refusal.
@@ -70,7 +70,7 @@ fn digital_entry(bytes: &[u8], at: usize, alarm: usize) -> Entry
     ensures { result ≡ entry_at Form.Digital bytes.now at alarm }
 {
     let input = bytes[at];
-    let word = get_u32(bytes, at + DIGITAL_WORD);
+    let word = u32::get(bytes, at + DIGITAL_WORD);
     if HIGHEST_INPUT < input {
         return refuse(NOT_A_BIT, alarm);
     }
@@ -84,8 +84,8 @@ fn analog_entry(bytes: &[u8], at: usize, alarm: usize) -> Entry
     requires { at + 8 ≤ length bytes.now }
     ensures { result ≡ entry_at Form.Analog bytes.now at alarm }
 {
-    let pattern = get_u32(bytes, at);
-    let word = get_u32(bytes, at + ANALOG_WORD);
+    let pattern = u32::get(bytes, at);
+    let word = u32::get(bytes, at + ANALOG_WORD);
     let within = is_bounded_pattern(pattern);
     let is_beyond = !within;
     if is_beyond {

@@ -13,8 +13,7 @@ use settings::refusals::{INCOMPLETE, OUT_OF_RANGE, UNKNOWN_FLAG, WRONG_LIMITS};
 use settings::reply::Refusal;
 use settings::rules::{levels_apart, numbers_in_range};
 use settings::types::{Alarm, Form, Kind, Limits, Severities};
-use wire::number::{get_u32, has};
-use wire::real::get_real;
+use wire::number::{LittleEndian, has};
 
 // What a one counts behind the last flag of each form.
 const DIGITAL_FLAGS: u8 = 8;
@@ -39,12 +38,12 @@ fn severities_at(image: &[u8], at: usize) -> Severities
     ensures { result ≡ severities_at image.now at }
 {
     Severities {
-        hh: get_u32(image, at + SEVERITY_HH),
-        h: get_u32(image, at + SEVERITY_H),
-        l: get_u32(image, at + SEVERITY_L),
-        ll: get_u32(image, at + SEVERITY_LL),
-        rocpos: get_u32(image, at + SEVERITY_ROCPOS),
-        rocneg: get_u32(image, at + SEVERITY_ROCNEG),
+        hh: u32::get(image, at + SEVERITY_HH),
+        h: u32::get(image, at + SEVERITY_H),
+        l: u32::get(image, at + SEVERITY_L),
+        ll: u32::get(image, at + SEVERITY_LL),
+        rocpos: u32::get(image, at + SEVERITY_ROCPOS),
+        rocneg: u32::get(image, at + SEVERITY_ROCNEG),
     }
 }
 
@@ -53,13 +52,13 @@ fn limits_at(image: &[u8], at: usize) -> Limits
     ensures { result ≡ limits_at image.now at }
 {
     Limits {
-        hh: get_real(image, at + LIMIT_HH),
-        h: get_real(image, at + LIMIT_H),
-        l: get_real(image, at + LIMIT_L),
-        ll: get_real(image, at + LIMIT_LL),
-        deadband: get_real(image, at + DEADBAND),
-        rocpos: get_real(image, at + LIMIT_ROCPOS),
-        rocneg: get_real(image, at + LIMIT_ROCNEG),
+        hh: f32::get(image, at + LIMIT_HH),
+        h: f32::get(image, at + LIMIT_H),
+        l: f32::get(image, at + LIMIT_L),
+        ll: f32::get(image, at + LIMIT_LL),
+        deadband: f32::get(image, at + DEADBAND),
+        rocpos: f32::get(image, at + LIMIT_ROCPOS),
+        rocneg: f32::get(image, at + LIMIT_ROCNEG),
     }
 }
 
@@ -69,8 +68,8 @@ fn digital_record(image: &[u8], at: usize) -> Record
     ensures { result ≡ whole_record Form.Digital image.now at }
 {
     let flags = image[at];
-    let severity = get_u32(image, at + SEVERITY);
-    let duration = get_u32(image, at + DIGITAL_DURATION);
+    let severity = u32::get(image, at + SEVERITY);
+    let duration = u32::get(image, at + DIGITAL_DURATION);
     if DIGITAL_FLAGS <= flags {
         return refuse(UNKNOWN_FLAG, at);
     }
@@ -96,8 +95,8 @@ fn analog_record(image: &[u8], at: usize) -> Record
     let flags = image[at];
     let severities = severities_at(image, at);
     let limits = limits_at(image, at);
-    let period = get_u32(image, at + PERIOD);
-    let duration = get_u32(image, at + ANALOG_DURATION);
+    let period = u32::get(image, at + PERIOD);
+    let duration = u32::get(image, at + ANALOG_DURATION);
     if ANALOG_FLAGS <= flags {
         return refuse(UNKNOWN_FLAG, at);
     }

@@ -13,7 +13,7 @@ use crate::place::step_place;
 use scan_record::part::{DIGITAL_PART, TIME_SIZE, part_size};
 use settings::counts::Counts;
 use settings::types::Form;
-use wire::number::get_u64;
+use wire::number::LittleEndian;
 
 // Steps `count` alarms of one form from place `first` on, whose parts of the record begin at `begin`. Their events go to `out`
 // from `start` on; answers the offset past them.
@@ -89,7 +89,7 @@ pub fn scan_alarms(
     ensures out_after { out.new ≡ sets out.old 0
         (log_after (words_in settings.now states.old marks.old) bytes.now) }
 {
-    let time = get_u64(bytes, 0);
+    let time = u64::get(bytes, 0);
     let half = scan_form(
         settings,
         states,

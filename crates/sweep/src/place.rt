@@ -14,9 +14,8 @@ use layout::sizes::{ALARM_WORDS, MARK_WORDS, SETTINGS_HEAD, STATE_WORDS, STATES_
 use marks::mark::{mark_alarm, required_in};
 use settings::types::{Form, Reading};
 use state::offsets::STARTS;
-use wire::number::get_u32;
+use wire::number::LittleEndian;
 use wire::places::SUPPRESSED;
-use wire::real::get_real;
 
 // Steps the alarm with its part of the record, which begins at `at`, and answers its event word.
 fn step_form(
@@ -37,12 +36,12 @@ fn step_form(
     match form {
         Form::Digital => {
             let reading = Reading::Digital(bytes[at] == 1);
-            let word = get_u32(bytes, at + 1);
+            let word = u32::get(bytes, at + 1);
             digital_step(settings, from, states, kept, reading, word, time)
         }
         Form::Analog => {
-            let reading = Reading::Level(get_real(bytes, at));
-            let word = get_u32(bytes, at + 4);
+            let reading = Reading::Level(f32::get(bytes, at));
+            let word = u32::get(bytes, at + 4);
             analog_step(settings, from, states, kept, reading, word, time)
         }
     }

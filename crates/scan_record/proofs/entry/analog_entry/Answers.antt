@@ -8,17 +8,17 @@ pub returns-then-is_beyond : goal.returns-then-is_beyond
 unfolding entry_at checked
 returns-then-is_beyond c =
     c.refuse.ensures
-    ∙ simp (← c.get_u32-pattern.ensures, ← c.is_bounded_pattern-within.ensures, c.if-is_beyond.true)
+    ∙ simp (← c.get-pattern.ensures, ← c.is_bounded_pattern-within.ensures, c.if-is_beyond.true)
 
 pub returns-then-not-is_command : goal.returns-then-not-is_command
 unfolding entry_at checked
 returns-then-not-is_command c =
     c.refuse-then-not-is_command.ensures
     ∙ simp (
-      ← c.get_u32-pattern.ensures,
+      ← c.get-pattern.ensures,
       ← c.is_bounded_pattern-within.ensures,
       c.if-is_beyond.false,
-      ← c.get_u32-word.ensures,
+      ← c.get-word.ensures,
       ← c.is_command.ensures,
       c.if-not-is_command.true,
     )
@@ -28,10 +28,10 @@ unfolding entry_at checked
 returns c =
     simp (
       c.from_pattern.ensures,
-      ← c.get_u32-pattern.ensures,
+      ← c.get-pattern.ensures,
       ← c.is_bounded_pattern-within.ensures,
       c.if-is_beyond.false,
-      ← c.get_u32-word.ensures,
+      ← c.get-word.ensures,
       ← c.is_command.ensures,
       c.if-not-is_command.false,
     )

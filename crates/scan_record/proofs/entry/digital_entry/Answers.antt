@@ -15,7 +15,7 @@ returns-then-not-is_command c =
     c.refuse-then-not-is_command.ensures
     ∙ simp (
       le-leb _ _ c.if-input-gt-HIGHEST_INPUT.false,
-      ← c.get_u32-word.ensures,
+      ← c.get-word.ensures,
       ← c.is_command.ensures,
       c.if-not-is_command.true,
     )
@@ -25,7 +25,7 @@ unfolding entry_at checked
 returns c =
     simp (
       le-leb _ _ c.if-input-gt-HIGHEST_INPUT.false,
-      ← c.get_u32-word.ensures,
+      ← c.get-word.ensures,
       ← c.is_command.ensures,
       c.if-not-is_command.false,
     )
