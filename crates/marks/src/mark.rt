@@ -5,9 +5,9 @@ ghost use Rattle.layout.specs.Internal.Words.{alarm_in};
 ghost use Rattle.marks.specs.Internal.Marks.{mark_conditions, mark_alarm, starts_in};
 
 use crate::words::{CONDITION_WORDS, mark_turn};
-use condition::row::choose;
 use layout::read::flags_in;
 use settings::types::Form;
+use wire::choice::choose;
 use wire::places::{CONDITIONS, COUNT_RESET};
 
 // AckRequired, from the alarm's settings.

@@ -44,16 +44,16 @@ returns-then-word-first c =
     let per = c.period_in-period.ensures in
     let value = c.value_of.ensures in
     let two : g.at + 1 + 1 ≡ g.at + 2 = omega arith in
-    let on = enabled_in c.modes-m.result in
+    let on = c.is_enabled-enabled.ensures in
     let first = get_or ws (g.at + 1) 0 in
     let rate =
     c.resample-rate.ensures.value
-    ∙ (λ i. rate_in (low i) on (per i) first (get_or ws (two i) 0) (value i) g.time)
+    ∙ (λ i. rate_in (low i) (on i) (per i) first (get_or ws (two i) 0) (value i) g.time)
     ∙ rate-pattern-is a ws g.at x g.word g.time e
     in
     let stored =
     c.resample-rate.ensures.states_after
-    ∙ (λ i. sets ws (g.at + 1) (sample_in (low i) on (per i) first (get_or ws (two i) 0) (value i) g.time ∷ sampled_in (low i) (per i) (get_or ws (two i) 0)
+    ∙ (λ i. sets ws (g.at + 1) (sample_in (low i) (on i) (per i) first (get_or ws (two i) 0) (value i) g.time ∷ sampled_in (low i) (per i) (get_or ws (two i) 0)
     g.time ∷ []))
     in
     let real = c.from_pattern.ensures ∙ ap (of_bits binary32) rate ∙ rate-real a ws g.at x g.word g.time e in
@@ -96,16 +96,16 @@ returns c =
     let per = c.period_in-period.ensures in
     let value = c.value_of.ensures in
     let two : g.at + 1 + 1 ≡ g.at + 2 = omega arith in
-    let on = enabled_in c.modes-m.result in
+    let on = c.is_enabled-enabled.ensures in
     let first = get_or ws (g.at + 1) 0 in
     let rate =
     c.resample-rate.ensures.value
-    ∙ (λ i. rate_in (low i) on (per i) first (get_or ws (two i) 0) (value i) g.time)
+    ∙ (λ i. rate_in (low i) (on i) (per i) first (get_or ws (two i) 0) (value i) g.time)
     ∙ rate-pattern-is a ws g.at x g.word g.time e
     in
     let stored =
     c.resample-rate.ensures.states_after
-    ∙ (λ i. sets ws (g.at + 1) (sample_in (low i) on (per i) first (get_or ws (two i) 0) (value i) g.time ∷ sampled_in (low i) (per i) (get_or ws (two i) 0)
+    ∙ (λ i. sets ws (g.at + 1) (sample_in (low i) (on i) (per i) first (get_or ws (two i) 0) (value i) g.time ∷ sampled_in (low i) (per i) (get_or ws (two i) 0)
     g.time ∷ []))
     in
     let real = c.from_pattern.ensures ∙ ap (of_bits binary32) rate ∙ rate-real a ws g.at x g.word g.time e in
@@ -119,7 +119,7 @@ returns c =
     let f = ap (λ (l : List ℕ). get_or l g.at 0) stored ∙ (beside-sample ws g.at _ _).0 in
     let h = ap (λ (l : List ℕ). get_or l (g.at + 3) 0) stored ∙ (beside-sample ws g.at _ _).1 in
     let l = ap (λ (l : List ℕ). get_or l (g.at + 4) 0) stored ∙ (beside-sample ws g.at _ _).2 in
-    let need = ap (λ (v : ℕ). bit v 4) set in
+    let need = c.is_set.ensures ∙ ap (λ (v : ℕ). bit v 4) (c.from.ensures ∙ set) in
     let asked = c.frees_in.ensures in
     let lasts = c.duration_in.ensures in
     let frees =

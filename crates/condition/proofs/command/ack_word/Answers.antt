@@ -15,8 +15,4 @@ unfolding word_of spread ack_bits acks
 returns-then-word-eq0 c = (sym (ap (λ (w : ℕ). word_of (spread (ack_bits w c.args.previous))) c.if-word-eq0.true), omega arith)
 
 pub returns : goal.returns
-returns c =
-    let a = c.args in (
-      c.spread6.ensures.0 ∙ ap (λ (l : List Bool). word_of (spread l)) (acks-are a.word a.previous c.acks_all-all.ensures),
-      c.spread6.ensures.1,
-    )
+returns c = (cc (acks-are c.args.word c.args.previous c.acks_all-all.ensures), c.spread_of.ensures.1)
