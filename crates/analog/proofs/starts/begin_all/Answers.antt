@@ -1,14 +1,12 @@
 -- `analog::starts::begin_all` meets its contract. Assumes nothing.
 use mathlib.Core.Path.{◌≡◌, refl, sym, ap, ◌∙◌}
 use mathlib.Core.Bool.{Bool, true, false, not, ◌&&◌, ◌||◌}
-use mathlib.Core.List.{List, [], ◌∷◌}
+use mathlib.Core.List.{List}
 use borrow.Author.Tests.{eqb-true}
-use Prim.Native.Nat.{ℕ, ◌%◌}
+use Prim.Native.Nat.{ℕ}
 use native.Mathlib.Nat.{zero-div}
-use lib.Dec.{eqb}
 use Rattle.wire.specs.Bits.{bit}
 use Rattle.wire.proofs.Laws.{and-true}
-use Rattle.wire.proofs.WordLaws.{bit-zero}
 use Rattle.state.specs.Internal.Starts.{keep_starts}
 use Rattle.analog.specs.Internal.Packed.{row_begins, all_begin}
 use Rattle.state.proofs.Starts.{none-begins}
