@@ -40,7 +40,8 @@ module _ (alarm : Alarm) (ws : List ℕ) (at : ℕ) (x : Reading) (word time : �
   pub record Sensed (modes met : ℕ) (stored : List ℕ) : Type 0 where
     pub modes-are : modes ≡ word_of (mode_bits (bit s.flags 0) (bit s.flags 1) word s.previous)
     pub enabled : enabled_in modes ≡ analog_enabled reals a x word time (look_analog real_patterns s)
-    pub sampled : stored ≡ sets ws (at + 1) (resampled s.flags (enabled_in modes) a.period (get_or ws (at + 1) 0) (get_or ws (at + 2) 0) (value_of reals (real_of x)))
+    pub sampled : stored
+        ≡ sets ws (at + 1) (resampled s.flags (enabled_in modes) a.period (get_or ws (at + 1) 0) (get_or ws (at + 2) 0) (value_of reals (real_of x)))
     pub met-is : met ≡ word_of (spread (met_bits reals a (real_of x) (after reals real_patterns a s x word time).sample.rate))
 
   pub sensed : {flags previous modes period rate set met : ℕ} {on : Bool} {value real : Float} {limits : Limits} {stored : List ℕ}

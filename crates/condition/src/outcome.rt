@@ -22,7 +22,8 @@ pub fn condition(
     ack: bool,
     required: bool,
 ) -> u32
-    ensures { (result ≡ word_of (outcome digit (record { enabled = enabled; met = met; frees = frees; ready = ready; ack = ack; required = required }))) × (result < 64) }
+    ensures { (result ≡ word_of (outcome digit (record { enabled = enabled; met = met; frees = frees; ready = ready; ack = ack; required = required })))
+        × (result < 64) }
 {
     let alarm = is_set(digit, ALARM);
     let unacked = is_set(digit, UNACKED);

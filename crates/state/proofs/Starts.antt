@@ -41,7 +41,8 @@ unfolding keep_starts
 keep-append [] ys time at ws = ap (λ (k : ℕ). keep_starts ys time k ws) (sym (add-zero at))
 keep-append (x ∷ xs) ys time at ws =
     let v = keep_start x time at ws in
-    keep-append xs ys time (suc at) v ∙ ap (λ (k : ℕ). keep_starts ys time k (keep_starts xs time (suc at) v)) (suc-add at (length xs) ∙ sym (add-suc at (length xs)))
+    keep-append xs ys time (suc at) v
+    ∙ ap (λ (k : ℕ). keep_starts ys time k (keep_starts xs time (suc at) v)) (suc-add at (length xs) ∙ sym (add-suc at (length xs)))
 
 -- one more of them
 pub next-start : (bs : List Bool) (i time at : ℕ) (ws : List ℕ) → i < length bs
