@@ -31,14 +31,7 @@ pub fn lowest(w: u64) -> u8
 pub fn pair(l: u32, h: u32) -> u64
     ensures { (result ≡ pair_of l h) × (lower_of result ≡ l) × (upper_of result ≡ h) }
 {
-    l as u64 + HALF * (h as u64)
-}
-
-// A byte in the lower half.
-pub fn byte_pair(l: u8, h: u32) -> u64
-    ensures { (result ≡ pair_of l h) × (result % 256 ≡ l) × (upper_of result ≡ h) }
-{
-    l as u64 + HALF * (h as u64)
+    u64::from(l) + HALF * u64::from(h)
 }
 
 pub fn lower_real(w: u64) -> f32
