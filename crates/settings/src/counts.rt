@@ -10,7 +10,7 @@ pub const MOST: usize = 12;
 // And of both forms together.
 pub const ALARMS: usize = 2 * MOST;
 
-#[derive(Clone, Copy)]
+#[derive(Clone, Copy, Debug, PartialEq, Eq)]
 pub struct Counts {
     pub digital: usize,
     pub analog: usize,
