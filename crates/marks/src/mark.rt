@@ -38,8 +38,10 @@ fn mark_conditions(
 {
     let reset = events / COUNT_RESET % 2 == 1;
     let mut rest = events / CONDITIONS;
-    let mut place = 0;
-    while (place < 6) & (reset | (rest != 0)) {
+    for place in 0..6 {
+        if rest == 0 && !reset {
+            return;
+        }
         mark_turn(
             marks,
             base + CONDITION_WORDS * place,
@@ -50,8 +52,7 @@ fn mark_conditions(
             from + place,
             time,
         );
-        rest = rest / 8;
-        place += 1;
+        rest /= 8;
     }
 }
 
