@@ -26,7 +26,7 @@ scan_form-half-requires c =
     let d : a.counts.digital ≡ (counts_in a.settings.now).digital = ap (λ (k : Counts). k.digital) r.counts-are in
     let most = room_most w rec a.counts r.counts-are in
     record {
-      sizes = (omega (arith, r.most), r.settings-long, r.states-long, r.marks-long);
+      sizes = (omega (arith, r.most), r.states-long, r.marks-long);
       parts = (c.get_u64-time.ensures, omega arith, omega (arith, r.record-long));
       have_form = rw (← d) (digital-places a.counts);
       room = omega (arith, log-grows w rec 0 a.counts.digital a.counts.analog, most, c.requires.room);
@@ -48,7 +48,6 @@ scan_form-used-requires c =
     record {
       sizes = (
         omega (arith, r.most),
-        r.settings-long,
         ap length e.states_after ∙ stepped-length w rec 0 a.counts.digital ∙ r.states-long,
         ap length e.marks_after ∙ marked-length w rec 0 a.counts.digital ∙ r.marks-long,
       );
