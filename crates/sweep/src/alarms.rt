@@ -45,6 +45,8 @@ fn scan_form(
     ensures out_after { out.new ≡ sets out.old start
         (log_from (words_in scan.now.settings.now states.old marks.old) scan.now.bytes.now first.place count) }
 {
+    // A copy, since what stands behind a reference would be read again for each alarm.
+    let scan = *scan;
     let form = first.form;
     let mut at = first.at;
     let mut used = start;
@@ -54,7 +56,7 @@ fn scan_form(
             place: first.place + n,
             at,
         };
-        used = step_place(scan, part, states, marks, out, used);
+        used = step_place(&scan, part, states, marks, out, used);
         at += part_size(form);
     }
     used
