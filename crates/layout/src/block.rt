@@ -19,7 +19,7 @@ pub fn is_block(words: &[u64]) -> bool
     words.len() == SETTINGS_WORDS && words[0] == LAYOUT_WORD
 }
 
-// The counts that a block says.
+// The counts that a block says. Here and where they are written `as` stays: no From stands between u64 and usize.
 pub fn counts_in(words: &[u64]) -> Counts
     requires { 4 ≤ length words.now }
     ensures { result ≡ counts_in words.now }

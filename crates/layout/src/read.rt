@@ -1,4 +1,5 @@
-// An alarm's settings, read from its 8 words: single numbers, for a step that needs no struct, and the whole.
+// An alarm's settings, read from its 8 words: single numbers, for a step that needs no struct, and the whole. Each asks for the
+// same 8 words by their offset: a slice of them would cost a step the cut, and a proof the way back to the block.
 ghost use Rattle.std.specs.Prelude.{◌≡◌, ◌+◌, ◌≤◌, length};
 ghost use Rattle.layout.specs.Internal.Words.{flags_in, duration_in, period_in, limits_in, severity_in, severities_in, kind_in, alarm_in};
 

@@ -1,18 +1,12 @@
 -- `event::write::put_bits` meets its contract: the invariant: writing the bits that are left gives what writing all gives, and room is left for
 -- them; the head goes up by a kind from bit to bit. Assumes nothing.
 use borrow.Author.Rules.{rules}
-use Prim.Native.Nat.{◌-◌}
-use mathlib.Core.Path.{◌≡◌, refl, sym, ap, ◌∙◌}
+use mathlib.Core.Path.{sym, ap, ◌∙◌}
 use native.Mathlib.Omega.{arith}
 use lib.ListN.{length}
 use lib.Seq.{sets}
 use Rattle.event.proofs.Stores.{left-length, left-stores, left-none}
 use Rattle.event.proofs.write.put_bits.Goals as goal
-
-pub loop-bit-init : goal.loop-bit-init
-loop-bit-init c =
-    let n : c.args.count - 0 ≡ c.args.count = omega arith in
-    record { same_length = refl; goes_up = omega arith; room = rw n; left = rw n }
 
 pub put_bit-at-requires : goal.put_bit-at-requires
 put_bit-at-requires c =

@@ -1,15 +1,12 @@
 -- `event::write::put_conditions` meets its contract: the invariant: writing the conditions from the place on gives what writing all gives,
 -- and room is left for them. Assumes nothing.
 use borrow.Author.Rules.{rules}
-use mathlib.Core.Path.{refl, sym, ap, ◌∙◌}
+use mathlib.Core.Path.{sym, ap, ◌∙◌}
 use native.Mathlib.Omega.{arith}
 use lib.ListN.{length}
 use lib.Seq.{sets}
 use Rattle.event.proofs.Groups.{length-next, sets-next, none-left, none-behind}
 use Rattle.event.proofs.write.put_conditions.Goals as goal
-
-pub loop-place-init : goal.loop-place-init
-loop-place-init c = record { same_length = refl; room = refl; stores = refl }
 
 pub returns-then-rest-eq0 : goal.returns-then-rest-eq0
 returns-then-rest-eq0 c =

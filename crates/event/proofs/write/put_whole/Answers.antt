@@ -1,12 +1,10 @@
 -- `event::write::put_whole` meets its contract: without bits nothing is written; otherwise nine bits of one head. Assumes nothing.
-use mathlib.Core.Path.{sym, ap, ◌∙◌}
-use Prim.Native.Nat.{ℕ, ◌/◌}
+use mathlib.Core.Path.{sym}
+use Prim.Native.Nat.{◌/◌}
 use native.Mathlib.Nat.{add-zero}
 use native.Mathlib.Omega.{arith}
-use lib.ListN.{length}
-use lib.Seq.{sets}
 use Rattle.wire.specs.Internal.Places.{first_condition, condition_unit}
-use Rattle.event.specs.Internal.Bits.{head_of, records_of}
+use Rattle.event.specs.Internal.Bits.{head_of}
 use Rattle.event.proofs.Stores.{no-records}
 use Rattle.event.proofs.write.put_whole.Goals as goal
 
@@ -18,18 +16,4 @@ returns-then-word-eq0 c =
     record {
       value = rw e (sym (add-zero _));
       out_after = rw e;
-    }
-
-pub put_bits-requires : goal.put_bits-requires
-put_bits-requires c =
-    let e = ap (λ (x : ℕ). length (records_of c.args.source.now.time first_condition x c.args.word)) c.head-first.ensures.value in
-    omega arith
-
-pub returns : goal.returns
-returns c =
-    let a = c.args in
-    let e = ap (λ (x : ℕ). records_of a.source.now.time first_condition x a.word) c.head-first.ensures.value in
-    record {
-      value = omega (arith, ap length e, c.put_bits.ensures.value);
-      out_after = c.put_bits.ensures.out_after ∙ ap (sets a.out.now a.at) e;
     }

@@ -11,9 +11,6 @@ use lib.Seq.{sets}
 use Rattle.image.specs.Internal.Write.{read_as}
 use Rattle.image.proofs.write.put_records.Goals as goal
 
-pub loop-place-init : goal.loop-place-init
-loop-place-init c = record { same_length = refl; room = refl; left = refl }
-
 pub put_record-at-requires : goal.put_record-at-requires
 put_record-at-requires c =
     let a = c.args in

@@ -1,13 +1,9 @@
 -- `layout::block::put_alarms` meets its contract: the invariant: writing the alarms that are left gives what writing all gives, and the words say
 -- those in front. Assumes nothing.
 use borrow.Author.Rules.{rules}
-use mathlib.Core.Path.{refl, sym, ◌∙◌}
-use native.Mathlib.Omega.{arith}
+use mathlib.Core.Path.{sym, ◌∙◌}
 use Rattle.layout.proofs.Blocks.{alarms-next, alarms-none, said-next}
 use Rattle.layout.proofs.block.put_alarms.Goals as goal
-
-pub loop-place-init : goal.loop-place-init
-loop-place-init c = record { same_length = refl; left = refl; says = λ p h. absurd (omega arith) }
 
 pub loop-place-preserved : goal.loop-place-preserved
 loop-place-preserved c =

@@ -86,17 +86,3 @@ loop-n-preserved c =
       marked = q.marks_after ∙ marks-next w rec p l.n f h t s l.invariant.marked;
       logged = q.out_after ∙ out-next w rec p l.n f h t s a.out.now a.start l.invariant.logged l.invariant.written;
     }
-
-pub returns : goal.returns
-returns c =
-    let l = c.loop-n in
-    let a = c.args in
-    let rec : List ℕ = a.scan.now.bytes.now in
-    let w : Words = words_in a.scan.now.settings.now a.states.now a.marks.now in
-    let n : l.n ≡ a.count = omega arith in
-    record {
-      value = l.invariant.written ∙ ap (λ (k : ℕ). a.start + length (log_from w rec a.first.place k)) n;
-      states_after = l.invariant.stepped ∙ ap (stepped_from w rec a.first.place) n;
-      marks_after = l.invariant.marked ∙ ap (marked_from w rec a.first.place) n;
-      out_after = l.invariant.logged ∙ ap (λ (k : ℕ). sets a.out.now a.start (log_from w rec a.first.place k)) n;
-    }
