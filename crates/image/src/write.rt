@@ -7,7 +7,8 @@ ghost use Rattle.settings.specs.Counts.{all_most};
 ghost use Rattle.settings.specs.Internal.Few.{Few};
 ghost use Rattle.wire.specs.Internal.Words.{words};
 ghost use Rattle.settings_record.specs.Record.{size_of};
-ghost use Rattle.image.specs.Internal.Write.{digital_bytes, analog_bytes, record_bytes, records_bytes, section_bytes, read_as, size_of_image, has_room, written_of, image_buffer, write_of, write_buffer};
+ghost use Rattle.image.specs.Internal.Write.{digital_bytes, analog_bytes, record_bytes, records_bytes, section_bytes, read_as};
+ghost use Rattle.image.specs.Internal.Write.{size_of_image, has_room, written_of, image_buffer, write_of, write_buffer};
 ghost use Rattle.layout.specs.Internal.Words.{form_of};
 ghost use Rattle.layout.specs.Internal.Block.{settings_in};
 
