@@ -1,6 +1,6 @@
 // What the library's calls answer, as results.
 ghost use Rattle.std.specs.Prelude.{◌≡◌};
-ghost use Rattle.bank_text.specs.Outcome.{of_reply, of_scan, of_write, of_report};
+ghost use Rattle.bank_text.specs.Internal.Outcome.{of_reply, of_scan, of_write, of_report};
 
 use image::write::Written;
 use report::report::AlarmReport;

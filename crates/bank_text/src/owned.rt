@@ -1,12 +1,13 @@
 // A bank in blocks of its own.
-ghost use Rattle.std.specs.Prelude.{◌≡◌, ◌≤◌, IsTrue, ◌↔◌, [], ◌∷◌, length};
+ghost use Rattle.std.specs.Prelude.{◌≡◌, ◌-◌, [], ◌∷◌, length};
 ghost use Rattle.bank.specs.Internal.Load.{load_reply, load_words};
 ghost use Rattle.scan.specs.Internal.Words.{answer_of, scanned_words, buffer_of};
 ghost use Rattle.report.specs.Internal.Report.{report_in};
 ghost use Rattle.image.specs.Internal.Write.{write_of, write_buffer};
 ghost use Rattle.layout.specs.Internal.Block.{counts_in};
-ghost use Rattle.bank_text.specs.Outcome.{of_reply, of_scan, of_write, of_report};
-ghost use Rattle.bank_text.specs.Owned.{words_of, blank_words, alarms_of};
+ghost use Rattle.settings.specs.Counts.{form_at};
+ghost use Rattle.bank_text.specs.Internal.Outcome.{of_reply, of_scan, of_write, of_report};
+ghost use Rattle.bank_text.specs.Internal.Owned.{words_of, blank_words, alarms_of};
 
 use crate::outcome::{of_reply, of_report, of_scan, of_write};
 use bank::load::load;
@@ -15,8 +16,9 @@ use layout::block::counts_in;
 use layout::sizes::{MARKS_WORDS, SETTINGS_WORDS, STATES_WORDS};
 use report::report::{AlarmReport, report};
 use scan::scan::scan;
-use settings::counts::{Counts, are_good, in_all};
+use settings::counts::{Counts, are_good, form_at, in_all};
 use settings::reply::Refusal;
+use settings::types::Form;
 
 #[derive(Drop)]
 pub struct Bank {
@@ -96,10 +98,10 @@ impl Bank {
         if are_good(counts) { in_all(counts) } else { 0 }
     }
 
-    // Whether the alarm with a number, if there is one, is digital.
-    pub fn is_digital(&self, alarm: usize) -> bool
-        ensures { IsTrue result ↔ (alarm ≤ (counts_in (words_of self.now).settings).digital) }
+    // The form of the alarm with a number, if there is one.
+    pub fn form(&self, alarm: usize) -> Form
+        ensures { result ≡ form_at (counts_in (words_of self.now).settings) (alarm - 1) }
     {
-        alarm <= self.counts().digital
+        form_at(self.counts(), alarm.saturating_sub(1))
     }
 }

@@ -1,7 +1,9 @@
 // What both programs print of a bank.
-ghost use Rattle.std.specs.Prelude.{◌≡◌, cond};
+ghost use Rattle.std.specs.Prelude.{◌≡◌};
+ghost use Rattle.bank_text.specs.Internal.Show.{first_number, end_of_numbers};
 
 use settings::reply::Refusal;
+use settings::types::Form;
 use std::fmt;
 use std::ops::Range;
 
@@ -17,8 +19,11 @@ impl fmt::Display for Refused {
 }
 
 // The numbers of the conditions of an alarm: 0 for the one of a digital alarm, and 1 to 6 for those of an analog one.
-pub fn condition_numbers(is_digital: bool) -> Range<usize>
-    ensures { result ≡ cond is_digital (record { start = 0; end = 1 }) (record { start = 1; end = 7 }) }
+pub fn condition_numbers(form: Form) -> Range<usize>
+    ensures { result ≡ record { start = first_number form; end = end_of_numbers form } }
 {
-    if is_digital { 0..1 } else { 1..7 }
+    match form {
+        Form::Digital => 0..1,
+        Form::Analog => 1..7,
+    }
 }

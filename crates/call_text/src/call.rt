@@ -1,6 +1,6 @@
 // A line of text as a call.
 ghost use Rattle.std.specs.Prelude.{◌≡◌, ◌<◌, ◌≤◌, ◌↔◌, length, IfOk, IsErrOf};
-ghost use Rattle.call_text.specs.Call.{IsComment, room_of};
+ghost use Rattle.call_text.specs.Internal.Call.{IsComment, room_of};
 
 use crate::fault::{BadLine, Fault};
 use crate::words::Words;

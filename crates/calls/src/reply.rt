@@ -1,6 +1,7 @@
 // What the calls answer, as text.
 use bank_text::show::condition_numbers;
 use report::report::AlarmReport;
+use settings::types::Form;
 use std::fmt;
 use wire::real::to_pattern;
 
@@ -29,7 +30,7 @@ impl fmt::Display for Written<'_> {
 #[derive(Clone, Copy)]
 pub struct Report {
     pub found: AlarmReport,
-    pub is_digital: bool,
+    pub form: Form,
 }
 
 impl fmt::Display for Report {
@@ -47,7 +48,7 @@ impl fmt::Display for Report {
             alarm.high,
             alarm.low,
         )?;
-        for (number, status) in condition_numbers(self.is_digital).zip(&self.found.conditions) {
+        for (number, status) in condition_numbers(self.form).zip(&self.found.conditions) {
             write!(
                 f,
                 " / {number} {} {} {} {} {} {}",

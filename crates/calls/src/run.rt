@@ -52,8 +52,8 @@ impl Session {
             },
             Call::Report { alarm } => match self.bank.report(alarm) {
                 Ok(found) => {
-                    let is_digital = self.bank.is_digital(alarm);
-                    write!(output, "{}", Report { found, is_digital })?;
+                    let form = self.bank.form(alarm);
+                    write!(output, "{}", Report { found, form })?;
                 }
                 Err(refusal) => write_refused(output, refusal)?,
             },

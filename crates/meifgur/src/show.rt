@@ -34,7 +34,7 @@ fn write_alarm<W: Write>(output: &mut W, bank: &Bank, alarm: usize) -> io::Resul
     let Ok(found) = bank.report(alarm) else {
         return Ok(());
     };
-    for (condition, status) in condition_numbers(bank.is_digital(alarm)).zip(&found.conditions) {
+    for (condition, status) in condition_numbers(bank.form(alarm)).zip(&found.conditions) {
         let in_alarm = u8::from(status.alarm);
         let unacknowledged = u8::from(!status.acked);
         let count = status.count;

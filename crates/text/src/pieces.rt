@@ -1,6 +1,6 @@
 // Pieces of an input: lines, or records of one size.
 ghost use Rattle.std.specs.Prelude.{◌≡◌, ℕ, ◌<◌, ◌≤◌, length, IfSome};
-ghost use Rattle.text.specs.Pieces.{line_end_of, IsLinePart, IsRecordPart};
+ghost use Rattle.text.specs.Internal.Pieces.{line_end_of, IsLinePart, IsRecordPart};
 
 // The longest line that a program takes, in bytes.
 pub const LONGEST_LINE: usize = 20_000;
