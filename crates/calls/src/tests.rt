@@ -26,22 +26,3 @@ fn replies_to_each_call(rt: HostRuntime) -> Result<(), Fail> {
     }
     Ok(())
 }
-
-// The first byte behind what a call wrote counts, and the last one.
-#[test]
-fn touched_bytes_are_seen(rt: HostRuntime) -> Result<(), Fail> {
-    let alloc = rt.alloc();
-    let pattern = crate::lent::Pattern::new(alloc)?;
-    for place in [0, 1, 90, 91, 99] {
-        let mut lent = pattern.lend(alloc, 100)?;
-        assert_eq!(rt; lent.len(), 100);
-        assert!(rt; place < lent.len());
-        assert!(rt; !pattern.is_touched(&lent, 0));
-        if let Some(byte) = lent.get_mut(place) {
-            *byte = byte.wrapping_add(1);
-        }
-        assert!(rt; pattern.is_touched(&lent, place));
-        assert!(rt; !pattern.is_touched(&lent, place + 1));
-    }
-    Ok(())
-}
