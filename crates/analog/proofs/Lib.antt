@@ -4,3 +4,4 @@ pub mod Laws
 mod Rows
 mod Words
 mod Steps
+mod Sensed

@@ -5,25 +5,27 @@ ghost use Rattle.analog.specs.Internal.Packed.{ready_in, SameReady, enabled_in, 
 ghost use Rattle.state.specs.Internal.Starts.{keep_starts};
 ghost use Rattle.wire.specs.Internal.Places.{condition_unit, six_range};
 
-use crate::masks::only_in;
+use crate::sides::{is_high, is_low};
 use crate::starts::begin_all;
 use condition::command::ack_word;
-use condition::row::{choose, lasted};
+use condition::mode::is_enabled;
+use condition::row::lasted;
 use layout::half::{lower, pair, upper};
 use six::decide::{Cells, decide};
 use state::offsets::{HIGH, LOW};
-use wire::bits::{spread6, word3};
+use wire::bits::{is_set, only_in, spread_of, word_of};
+use wire::choice::choose;
 use wire::places::{CONDITIONS, H, HH, HIGH_RUN, L, LL, LOW_RUN, SIX};
 
 // The conditions that would be due if they are met.
 fn ready_in(flags: u32, high: u64, low: u64, duration: u32, time: u64) -> u32
     ensures { (result ≡ ready_in flags high low duration time) × (result < 65536) }
 {
-    let above = choose(flags / HIGH_RUN % 2 == 1, high, time);
-    let below = choose(flags / LOW_RUN % 2 == 1, low, time);
-    let h = lasted(above, duration, time) | ((flags / HH % 2 == 1) | (flags / H % 2 == 1));
-    let l = lasted(below, duration, time) | ((flags / L % 2 == 1) | (flags / LL % 2 == 1));
-    spread6(h, h, l, l, true, true)
+    let above = choose(is_set(flags, HIGH_RUN), high, time);
+    let below = choose(is_set(flags, LOW_RUN), low, time);
+    let h = lasted(above, duration, time) | (is_set(flags, HH) | is_set(flags, H));
+    let l = lasted(below, duration, time) | (is_set(flags, L) | is_set(flags, LL));
+    spread_of([h, h, l, l, true, true])
 }
 
 // The same, or none where no condition is met and not in alarm: only such a one asks whether it is due.
@@ -42,10 +44,10 @@ fn flags_after(modes: u32, met: u32, six: Cells) -> u32
     requires { six.kept < six_range }
     ensures { result ≡ flags_after modes met six }
 {
-    let enabled = !(modes % 2 == 1);
-    let high = enabled & ((met % 2 == 1) | (met / 8 % 2 == 1));
-    let low = enabled & ((met / 64 % 2 == 1) | (met / 512 % 2 == 1));
-    modes % 8 + 8 * word3(enabled, high, low) + CONDITIONS * six.kept
+    let enabled = is_enabled(modes);
+    let high = enabled & is_high(met);
+    let low = enabled & is_low(met);
+    modes % 8 + 8 * word_of([enabled, high, low]) + CONDITIONS * six.kept
 }
 
 // Ends the scan of the alarm whose words begin at `at`: stores starts, flags and command word, and answers the events.
@@ -70,7 +72,7 @@ pub fn finish(
 {
     let first = states[at];
     let flags = lower(first);
-    let enabled = !(modes % 2 == 1);
+    let enabled = is_enabled(modes);
     let ready = due_in(states, at, flags, met, duration, time);
     let acks = ack_word(word, upper(first));
     let six = decide(flags, enabled, met, frees, ready, acks, required);

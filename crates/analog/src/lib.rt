@@ -2,6 +2,6 @@
 #![tactic(auto)]
 
 pub mod finish;
-pub mod masks;
+pub mod sides;
 pub mod starts;
 pub mod step;

@@ -1,34 +1,15 @@
 // When the runs of both sides and the rows of the six conditions began.
-ghost use Rattle.std.specs.Prelude.{◌≡◌, cond, ◌&&◌, not, [], ◌∷◌, ◌+◌, ◌*◌, ◌≤◌, ◌<◌, length};
+ghost use Rattle.std.specs.Prelude.{◌≡◌, ◌+◌, ◌≤◌, length};
 ghost use Rattle.wire.specs.Bits.{bit};
-ghost use Rattle.state.specs.Internal.Starts.{keep_start, keep_starts};
+ghost use Rattle.state.specs.Internal.Starts.{keep_starts};
 ghost use Rattle.analog.specs.Internal.Packed.{row_begins, all_begin};
-ghost use Rattle.wire.specs.Internal.Places.{six_bits};
 
-use crate::masks::only_in;
-use state::begin::begin;
-use wire::places::{HH_ROW, HIGH_RUN, LOW_RUN, SIX};
-
-// Six rows, one at every third bit.
-fn begin_rows(states: &mut [u64], at: usize, begins: u32, time: u64)
-    requires { at + 6 ≤ length states.old }
-    ensures { states.new ≡
-        keep_starts (bit begins 0 ∷ bit begins 3 ∷ bit begins 6 ∷ bit begins 9 ∷ bit begins 12 ∷ bit begins 15 ∷ []) time at states.old }
-{
-    begin(states, at, begins % 2 == 1, time);
-    begin(states, at + 1, begins / 8 % 2 == 1, time);
-    begin(states, at + 2, begins / 64 % 2 == 1, time);
-    begin(states, at + 3, begins / 512 % 2 == 1, time);
-    begin(states, at + 4, begins / 4096 % 2 == 1, time);
-    begin(states, at + 5, begins / 32768 % 2 == 1, time);
-}
-
-// A bit for each of the six, or none.
-fn every(b: bool) -> u32
-    ensures { result ≡ cond b six_bits 0 }
-{
-    if b { SIX } else { 0 }
-}
+use crate::sides::{is_high, is_low};
+use state::begin::begin_each;
+use wire::bits::{is_set, only_in};
+use wire::places::{
+    AT_H, AT_HH, AT_L, AT_LL, AT_ROCNEG, AT_ROCPOS, HH_ROW, HIGH_RUN, LOW_RUN, every,
+};
 
 // The rows that begin, one at every third bit.
 fn rows_begin(flags: u32, enabled: bool, met: u32) -> u32
@@ -45,12 +26,20 @@ pub fn begin_all(states: &mut [u64], at: usize, flags: u32, enabled: bool, met: 
     ensures { states.new ≡ keep_starts (all_begin flags enabled met) time at states.old }
 {
     let begins = rows_begin(flags, enabled, met);
-    let high = enabled & ((met % 2 == 1) | (met / 8 % 2 == 1)) & !(flags / HIGH_RUN % 2 == 1);
-    let low = enabled & ((met / 64 % 2 == 1) | (met / 512 % 2 == 1)) & !(flags / LOW_RUN % 2 == 1);
+    let high = enabled & is_high(met) & !is_set(flags, HIGH_RUN);
+    let low = enabled & is_low(met) & !is_set(flags, LOW_RUN);
     if (begins == 0) & !high & !low {
         return;
     }
-    begin(states, at, high, time);
-    begin(states, at + 1, low, time);
-    begin_rows(states, at + 2, begins, time);
+    let all = [
+        high,
+        low,
+        is_set(begins, AT_HH),
+        is_set(begins, AT_H),
+        is_set(begins, AT_L),
+        is_set(begins, AT_LL),
+        is_set(begins, AT_ROCPOS),
+        is_set(begins, AT_ROCNEG),
+    ];
+    begin_each(states, at, all, time);
 }

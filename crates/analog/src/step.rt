@@ -13,18 +13,18 @@ ghost use Rattle.analog.specs.Internal.Packed.{SameFrees};
 ghost use Rattle.analog.specs.Internal.Analog.{analog_step};
 
 use crate::finish::finish;
-use crate::masks::only_in;
-use condition::mode::modes;
+use condition::mode::{is_enabled, modes};
 use layout::half::{lower, upper};
 use layout::read::{duration_in, flags_in, limits_in, period_in};
 use level::level::{frees_word, met_word};
 use level::rate::value_of;
 use sample::sample::resample;
 use settings::types::{Limits, Reading};
-use wire::places::{HH, SAMPLED, SIX};
+use wire::bits::{is_set, only_in};
+use wire::places::{ANALOG_ACK_REQUIRED, HH, SAMPLED, SIX};
 use wire::real::from_pattern;
 
-// The first word of an alarm at rest, flags and last command word: only a sample is stored.
+// The first word of an alarm at rest, flags and last command word: only a sample is stored. `as`: a constant calls no `From`.
 const RESTING: u64 = SAMPLED as u64;
 
 // The conditions that the reading frees, or none where no condition is in alarm and not met: only such a one asks.
@@ -56,7 +56,7 @@ pub fn analog_step(
     let first = states[at];
     let flags = lower(first);
     let m = modes(flags, word, upper(first));
-    let enabled = !(m % 2 == 1);
+    let enabled = is_enabled(m);
     let period = period_in(settings, from);
     let rate = resample(
         states,
@@ -80,7 +80,7 @@ pub fn analog_step(
         met,
         frees_in(flags, met, limits, reading),
         duration_in(settings, from),
-        set / 16 % 2 == 1,
+        is_set(u32::from(set), ANALOG_ACK_REQUIRED),
         word,
         time,
     )

@@ -1,4 +1,5 @@
-// What both programs print of a bank: a refusal, and how an alarm's conditions stand.
+// A bank in blocks of its own, with what both programs print of it: a refusal, and how an alarm's conditions are numbered.
 #![tactic(auto)]
 
-pub mod answers;
+pub mod owned;
+pub mod show;

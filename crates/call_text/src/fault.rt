@@ -1,43 +1,37 @@
-// What can be wrong with a line. The numbers are places in the list of forms of the reply.
-use crate::words::word;
-use text::output::{TEXT_SIZE, add};
-use text::show::add_form;
+// What can be wrong with a line, in the words of the reply.
+use std::alloc::AllocError;
+use text::pieces::LONGEST_LINE;
+use thiserror::Error;
 
-// A line that is a call.
-pub const NONE: usize = 0;
+// The longest buffer that a line may name, in bytes.
+pub const MOST_ROOM: usize = 65_536;
 
-pub const LONG_LINE: usize = 1;
+#[derive(Debug, Drop, PartialEq, Eq, Error)]
+pub enum BadLine {
+    #[error("bad line: over {most} characters", most = LONGEST_LINE)]
+    TooLong,
+    // The place of the word, counted from 1.
+    #[error("bad word {place}: {fault}")]
+    Word { place: usize, fault: Fault },
+    // There was no memory for what the line spells. It is no reply: the line may be good.
+    #[error("{0}")]
+    Memory(#[from(alloc)] AllocError),
+}
 
-pub const NO_CALL: usize = 2;
-
-pub const MISSING: usize = 3;
-
-pub const EXTRA: usize = 4;
-
-pub const NO_NUMBER: usize = 5;
-
-pub const TOO_LARGE: usize = 6;
-
-pub const NO_ROLE: usize = 7;
-
-pub const NO_BYTES: usize = 8;
-
-// A line that asks for nothing.
-pub const COMMENT: usize = 9;
-
-// Adds the reply to a line that is no call: a comment as it is, or which word is bad, counted from 1, and why.
-pub fn add_fault(
-    rt: &(impl Print + Eprint),
-    text: &mut [u8; TEXT_SIZE],
-    waiting: usize,
-    line: &[u8],
-    bad: usize,
-    fault: usize,
-) -> usize {
-    if fault == COMMENT {
-        return add(rt, text, waiting, line);
-    }
-    let forms =
-        b"bad line: over 20000 characters|bad word A: no such call|bad word A: missing|bad word A: one too many|bad word A: no number of up to 64 bits|bad word A: over 65536|bad word A: no role but -|bad word A: no bytes in hexadecimal";
-    add_form(rt, text, waiting, word(forms, b'|', fault), &[bad as u64])
+#[derive(Clone, Copy, Debug, PartialEq, Eq, Error)]
+pub enum Fault {
+    #[error("no such call")]
+    NoCall,
+    #[error("missing")]
+    Missing,
+    #[error("one too many")]
+    OneTooMany,
+    #[error("no number of up to 64 bits")]
+    NoNumber,
+    #[error("over {most}", most = MOST_ROOM)]
+    TooLarge,
+    #[error("no role but -")]
+    NoRole,
+    #[error("no bytes in hexadecimal")]
+    NoBytes,
 }

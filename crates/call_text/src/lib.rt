@@ -3,5 +3,4 @@
 
 pub mod call;
 pub mod fault;
-pub mod spelling;
 pub mod words;

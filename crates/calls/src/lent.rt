@@ -1,39 +1,43 @@
-// A buffer that is lent to a call, filled with a pattern before, so that every byte that the call changes is seen.
-ghost use Rattle.std.specs.Prelude.{◌≤◌};
+// Buffers that are lent to calls, filled with a pattern before, so that every byte that a call changes is seen.
+ghost use Rattle.std.specs.Prelude.{◌≡◌, ◌≤◌, not, IfOk, take, length, vec_len, slice_range, bytes_eq};
 
-use call_text::spelling::MOST_ROOM;
+use call_text::fault::MOST_ROOM;
+use std::alloc::{AllocError, Global};
 
-// The longest buffer that is lent.
-pub const LENT_SIZE: usize = MOST_ROOM;
+// What a buffer is filled with, for the longest one.
+#[derive(Drop)]
+pub struct Pattern(Vec<u8>);
 
-// How many bytes are lent where so many are asked for.
-pub fn lent_size(room: usize) -> usize
-    ensures { result ≤ 65536 }
-{
-    if room < LENT_SIZE { room } else { LENT_SIZE }
+// The pattern's byte at a place; `as` narrows what the division left. No event has bytes like these but in its severity and time.
+fn pattern_at(place: usize) -> u8 {
+    165 + (place % 91) as u8
 }
 
-// The pattern's byte at a place. No event has bytes like these but in its severity and time.
-fn pattern_at(i: usize) -> u8 {
-    165 + (i % 91) as u8
-}
-
-pub fn fill(lent: &mut [u8]) {
-    let mut i = 0;
-    while i < lent.len() {
-        lent[i] = pattern_at(i);
-        i += 1;
+impl Pattern {
+    pub fn new(alloc: Global) -> Result<Pattern, AllocError> {
+        let bytes = (0..MOST_ROOM).map(pattern_at).collect(alloc)?;
+        Ok(Pattern(bytes))
     }
-}
 
-// Whether a byte from `from` on is not the pattern's: 1 if one is, and 0 if none is.
-pub fn touched(lent: &[u8], from: usize) -> usize {
-    let mut i = from;
-    while i < lent.len() {
-        if lent[i] != pattern_at(i) {
-            return 1;
-        }
-        i += 1;
+    fn front(&self, length: usize) -> &[u8]
+        ensures { result.now ≡ take length self.now.0.items }
+    {
+        &self.0[..length.min(self.0.len())]
     }
-    0
+
+    // A buffer of so many bytes, at most the longest.
+    pub fn lend(&self, alloc: Global, room: usize) -> Result<Vec<u8>, AllocError>
+        ensures { IfOk result (λ lent. lent.items ≡ take room self.now.0.items) }
+    {
+        Vec::from_slice(alloc, self.front(room))
+    }
+
+    // Whether a byte of a lent buffer behind the first `used` is not the pattern's.
+    pub fn is_touched(&self, lent: &[u8], used: usize) -> bool
+        requires used { used ≤ length lent.now }
+        requires lent { length lent.now ≤ vec_len self.now.0 }
+        ensures { result ≡ not (bytes_eq (slice_range lent.now used (length lent.now)) (slice_range self.now.0.items used (length lent.now))) }
+    {
+        lent[used..] != self.0[used..lent.len()]
+    }
 }

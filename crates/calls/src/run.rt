@@ -1,169 +1,105 @@
-// Calls run on a bank in its three blocks.
-use crate::lent::{LENT_SIZE, fill, lent_size};
-use crate::reply::{NO_BYTES, NUMBER_ONLY, Said, WITH_BYTES, add_report, add_said};
-use bank::load::load;
-use call_text::call::{Call, REPORT, SCAN, SETTINGS, call_of};
-use call_text::fault::{NONE, add_fault};
-use call_text::spelling::{BYTES, BYTES_SIZE, NUMBER, ROOM};
+// Calls run on a bank, and answered.
+ghost use Rattle.std.specs.Prelude.{◌≤◌, length, vec_len};
+
+use crate::lent::Pattern;
+use crate::reply::{Report, Written};
+use bank_text::owned::Bank;
+use bank_text::show::Refused;
+use call_text::call::{Call, Line, parse};
+use call_text::fault::BadLine;
 use event::write::EVENT_SIZE;
-use image::write::write;
-use layout::block::counts_in;
-use layout::sizes::{MARKS_WORDS, SETTINGS_WORDS, STATES_WORDS};
-use report::report::report;
-use scan::scan::scan;
-use settings::counts::{Counts, are_good, in_all};
 use settings::refusals::Refusal;
-use text::input::part;
-use text::output::TEXT_SIZE;
+use std::alloc::{AllocError, Global};
+use std::io;
+use std::io::Write;
+use text::failure::Failure;
 
-// How many alarms a bank has. (A load writes no counts that a bank may not have)
-fn alarms_in(counts: Counts) -> usize {
-    if are_good(counts) { in_all(counts) } else { 0 }
+// A bank under calls, and what the buffers of the calls are filled with.
+#[derive(Drop)]
+pub struct Session {
+    alloc: Global,
+    bank: Bank,
+    pattern: Pattern,
 }
 
-// How many bytes so many event records have, of so many that there are.
-fn events_length(number: usize, room: usize) -> usize {
-    if number <= room / EVENT_SIZE {
-        EVENT_SIZE * number
-    } else {
-        room
+impl Session {
+    // Before the first settings the bank has no alarms.
+    pub fn new(alloc: Global) -> Result<Session, AllocError> {
+        Ok(Session {
+            alloc,
+            bank: Bank::new(),
+            pattern: Pattern::new(alloc)?,
+        })
+    }
+
+    // Runs and answers a line.
+    pub fn answer_line<W: Write>(&mut self, line: &[u8], output: &mut W) -> Result<(), Failure> {
+        match parse(self.alloc, line) {
+            Ok(Line::Comment) => output.write_all(line)?,
+            Ok(Line::Call(call)) => self.answer_call(call, output)?,
+            Err(BadLine::Memory(error)) => return Err(Failure::from(error)),
+            Err(bad) => write!(output, "{bad}")?,
+        }
+        output.write_all(b"\n")?;
+        Ok(())
+    }
+
+    fn answer_call<W: Write>(&mut self, call: Call, output: &mut W) -> Result<(), Failure> {
+        match call {
+            Call::Settings { image } => match self.bank.load(&image) {
+                Ok(()) => write!(output, "ok {}", self.bank.alarms())?,
+                Err(refusal) => write_refused(output, refusal)?,
+            },
+            Call::Report { alarm } => match self.bank.report(alarm) {
+                Ok(found) => {
+                    let form = self.bank.form(alarm);
+                    write!(output, "{}", Report { found, form })?;
+                }
+                Err(refusal) => write_refused(output, refusal)?,
+            },
+            Call::Scan { room, record } => {
+                let mut events = self.pattern.lend(self.alloc, room)?;
+                let answer = self.bank.scan(&record, events.as_mut_slice());
+                self.write_lent(output, answer, EVENT_SIZE, &events)?;
+            }
+            Call::Write { room } => {
+                let mut image = self.pattern.lend(self.alloc, room)?;
+                let answer = self.bank.write(image.as_mut_slice());
+                self.write_lent(output, answer, 1, &image)?;
+            }
+        }
+        Ok(())
+    }
+
+    // Writes the answer to a call that was lent a buffer, how many things of one size it put to the buffer's front, and whether it touched
+    // more of the buffer than it may.
+    fn write_lent<W: Write>(
+        &self,
+        output: &mut W,
+        answer: Result<usize, Refusal>,
+        size: usize,
+        lent: &[u8],
+    ) -> io::Result<()>
+        requires { length lent.now ≤ vec_len self.now.pattern.0 }
+    {
+        let length = match answer {
+            Ok(number) => {
+                let bytes = &lent[..number.saturating_mul(size).min(lent.len())];
+                write!(output, "{}", Written { number, bytes })?;
+                bytes.len()
+            }
+            Err(refusal) => {
+                write_refused(output, refusal)?;
+                0
+            }
+        };
+        if self.pattern.is_touched(lent, length) {
+            write!(output, " touched")?;
+        }
+        Ok(())
     }
 }
 
-// The answer with a number and bytes.
-fn written(number: usize, length: usize) -> Said {
-    Said {
-        reply: Ok(()),
-        form: if length == 0 { NO_BYTES } else { WITH_BYTES },
-        number: number as u64,
-        length,
-    }
-}
-
-fn refused(refusal: Refusal) -> Said {
-    Said {
-        reply: Err(refusal),
-        form: 0,
-        number: 0,
-        length: 0,
-    }
-}
-
-// Makes a new bank.
-pub fn run_settings(
-    settings: &mut [u64; SETTINGS_WORDS],
-    states: &mut [u64; STATES_WORDS],
-    marks: &mut [u64; MARKS_WORDS],
-    image: &[u8],
-) -> Said {
-    let reply = load(image, settings, states, marks);
-    Said {
-        reply,
-        form: NUMBER_ONLY,
-        number: alarms_in(counts_in(settings)) as u64,
-        length: 0,
-    }
-}
-
-// Runs a scan with a lent buffer.
-fn run_scan(
-    settings: &[u64],
-    states: &mut [u64; STATES_WORDS],
-    marks: &mut [u64; MARKS_WORDS],
-    record: &[u8],
-    lent: &mut [u8],
-) -> Said {
-    let room = lent.len();
-    match scan(settings, states, marks, record, lent) {
-        Ok(number) => written(number, events_length(number, room)),
-        Err(refusal) => refused(refusal),
-    }
-}
-
-// Writes a bank's settings to a lent buffer.
-fn run_write(settings: &[u64], lent: &mut [u8]) -> Said {
-    match write(settings, lent) {
-        Ok(length) => written(length, length),
-        Err(refusal) => refused(refusal),
-    }
-}
-
-fn run_report(
-    rt: &(impl Print + Eprint),
-    settings: &[u64; SETTINGS_WORDS],
-    states: &[u64; STATES_WORDS],
-    marks: &[u64; MARKS_WORDS],
-    alarm: usize,
-    text: &mut [u8; TEXT_SIZE],
-    waiting: usize,
-) -> usize {
-    let found = report(settings, states, marks, alarm);
-    let counts = counts_in(settings);
-    add_report(rt, text, waiting, found, alarm <= counts.digital)
-}
-
-// Runs a call that is lent a buffer. `bytes` has what it hands on.
-fn run_lent(
-    settings: &mut [u64; SETTINGS_WORDS],
-    states: &mut [u64; STATES_WORDS],
-    marks: &mut [u64; MARKS_WORDS],
-    name: usize,
-    bytes: &[u8],
-    lent: &mut [u8],
-) -> Said {
-    match name {
-        SETTINGS => run_settings(settings, states, marks, bytes),
-        SCAN => run_scan(settings, states, marks, bytes, lent),
-        _ => run_write(settings, lent),
-    }
-}
-
-// Lends a call its buffer, runs and answers it. `bytes` has what it hands on.
-fn run_call(
-    rt: &(impl Print + Eprint),
-    settings: &mut [u64; SETTINGS_WORDS],
-    states: &mut [u64; STATES_WORDS],
-    marks: &mut [u64; MARKS_WORDS],
-    call: Call,
-    bytes: &[u8; BYTES_SIZE],
-    text: &mut [u8; TEXT_SIZE],
-    waiting: usize,
-) -> usize {
-    let mut space = [0u8; LENT_SIZE];
-    let size = lent_size(call.values[ROOM]);
-    let lent = &mut space[0..size];
-    fill(lent);
-    let given = part(bytes, 0, call.values[BYTES]);
-    let said = run_lent(settings, states, marks, call.name, given, lent);
-    add_said(rt, text, waiting, said, lent)
-}
-
-// Runs and answers a line.
-pub fn run_line(
-    rt: &(impl Print + Eprint),
-    settings: &mut [u64; SETTINGS_WORDS],
-    states: &mut [u64; STATES_WORDS],
-    marks: &mut [u64; MARKS_WORDS],
-    line: &[u8],
-    is_cut: bool,
-    text: &mut [u8; TEXT_SIZE],
-    waiting: usize,
-) -> usize {
-    let mut bytes = [0u8; BYTES_SIZE];
-    let call = call_of(line, is_cut, &mut bytes);
-    if call.fault != NONE {
-        return add_fault(rt, text, waiting, line, call.bad, call.fault);
-    }
-    if call.name == REPORT {
-        return run_report(
-            rt,
-            settings,
-            states,
-            marks,
-            call.values[NUMBER],
-            text,
-            waiting,
-        );
-    }
-    run_call(rt, settings, states, marks, call, &bytes, text, waiting)
+fn write_refused<W: Write>(output: &mut W, refusal: Refusal) -> io::Result<()> {
+    write!(output, "{}", Refused(refusal))
 }

@@ -14,10 +14,9 @@ pub fn count_after(reset: bool, activated: bool, n: u64) -> u64
     ensures { result ≡ count_after reset activated n }
 {
     if reset {
-        if activated { 1 } else { 0 }
-    } else {
-        if activated { count_up(n) } else { n }
+        return u64::from(activated);
     }
+    if activated { count_up(n) } else { n }
 }
 
 // The ack time after a scan: an activation that needs no acknowledgement is acknowledged as of its own start.

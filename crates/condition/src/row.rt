@@ -1,12 +1,5 @@
 // Rows of scans that met a condition, by the time at which they began.
-ghost use Rattle.std.specs.Prelude.{◌≡◌, cond, ◌-◌, leb};
-
-// When the row that this scan goes on with, or begins, began.
-pub fn choose(on: bool, start: u64, time: u64) -> u64
-    ensures { result ≡ cond on start time }
-{
-    if on { start } else { time }
-}
+ghost use Rattle.std.specs.Prelude.{◌≡◌, ◌-◌, leb};
 
 // The time from `start` to `time`. A later start, which no handed-back state has, counts as `time`.
 pub fn elapsed(start: u64, time: u64) -> u64
@@ -19,5 +12,5 @@ pub fn elapsed(start: u64, time: u64) -> u64
 pub fn lasted(start: u64, duration: u32, time: u64) -> bool
     ensures { result ≡ leb duration (time - start) }
 {
-    duration as u64 <= elapsed(start, time)
+    u64::from(duration) <= elapsed(start, time)
 }

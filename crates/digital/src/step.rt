@@ -9,27 +9,31 @@ ghost use Rattle.digital.specs.Internal.Digital.{digital_step, rest_flags};
 ghost use Rattle.wire.specs.Internal.Places.{condition_unit};
 
 use condition::command::{acks_all, resets_one};
-use condition::mode::modes;
+use condition::mode::{is_enabled, modes};
 use condition::outcome::condition;
-use condition::row::{choose, lasted};
+use condition::row::lasted;
 use layout::half::{lower, pair, upper};
 use layout::read::{duration_in, flags_in};
 use level::level::is_bit;
 use settings::types::Reading;
 use state::offsets::STARTS;
-use wire::places::{CONDITIONS, HH, HH_ROW, HH_UNACKED};
+use wire::bits::is_set;
+use wire::choice::choose;
+use wire::places::{ACK_REQUIRED, CONDITION, CONDITIONS, HH, HH_ROW, HH_UNACKED, LATCHED};
 
 // Stores flags and command word, and the start of the row where it begins.
 fn keep(states: &mut [u64], at: usize, first: u64, begins: bool, time: u64)
     requires { at + 11 ≤ length states.old }
     ensures { states.new ≡ set (keep_start begins time (at + 5) states.old) at first }
 {
-    let begun = states[at + STARTS];
-    states[at + STARTS] = choose(begins, time, begun);
+    if begins {
+        states[at + STARTS] = time;
+    }
     states[at] = first;
 }
 
 // Of the first word, whose lower half are the flags and whose upper half is the last command word: in alarm, and its row goes on.
+// `as`: a constant calls no `From`.
 const IN_ALARM: u64 = (HH + HH_ROW) as u64;
 
 const UNACKED: u64 = HH_UNACKED as u64;
@@ -62,8 +66,8 @@ pub fn digital_step(
         (state_words (digital_step (alarm_in Form.Digital settings.now from) (state_in states.old at) reading word time).state) }
 {
     let first = states[at];
-    let set = flags_in(settings, from);
-    let met = is_bit(set % 2 == 1, reading);
+    let set = u32::from(flags_in(settings, from));
+    let met = is_bit(is_set(set, CONDITION), reading);
     if (word == 0) & rests(first, met) {
         return 0;
     }
@@ -71,9 +75,9 @@ pub fn digital_step(
     let flags = lower(first);
     let previous = upper(first);
     let m = modes(flags, word, previous);
-    let enabled = !(m % 2 == 1);
-    let frees = !(set / 4 % 2 == 1) | resets_one(word, previous);
-    let on = flags / HH_ROW % 2 == 1;
+    let enabled = is_enabled(m);
+    let frees = !is_set(set, LATCHED) | resets_one(word, previous);
+    let on = is_set(flags, HH_ROW);
     let ready = lasted(choose(on, begun, time), duration_in(settings, from), time);
     let ack = acks_all(word, previous);
     let c = condition(
@@ -83,7 +87,7 @@ pub fn digital_step(
         frees,
         ready,
         ack,
-        set / 2 % 2 == 1,
+        is_set(set, ACK_REQUIRED),
     );
     let kept = pair(m % 8 + CONDITIONS * (c % 8), word);
     keep(states, at, kept, (enabled & met) & !on, time);

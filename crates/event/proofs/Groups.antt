@@ -1,11 +1,11 @@
 -- The events of bits that belong together, as records whose heads differ by their kinds alone. Assumes nothing.
 use mathlib.Core.Path.{◌≡◌, refl, sym, ap, ap₂, ◌∙◌}
-use mathlib.Core.Bool.{Bool, true, false, not, ◌&&◌, cond, false≢true}
+use mathlib.Core.Bool.{Bool, true, false, cond}
 use mathlib.Core.List.{List, [], ◌∷◌, ◌++◌}
-use Prim.Native.Nat.{ℕ, zero, suc, ◌+◌, ◌*◌, ◌-◌, ◌/◌, ◌%◌, ◌<◌}
+use Prim.Native.Nat.{ℕ, zero, suc, ◌+◌, ◌*◌, ◌-◌, ◌/◌, ◌%◌, ◌^◌, ◌≤◌, ◌<◌}
 use native.Mathlib.Omega.{arith}
-use borrow.Author.Tests.{lt-ltb, le-ltb, ltb-false, eqb-true}
-use lib.Dec.{eqb, ltb}
+use borrow.Author.Tests.{lt-ltb, le-ltb}
+use lib.Dec.{eqb}
 use lib.ListN.{length, length-append}
 use lib.Seq.{sets}
 use Rattle.wire.specs.Number.{bytes}
@@ -19,6 +19,8 @@ use Rattle.settings.specs.Severity.{acting}
 use Rattle.event.specs.Event.{Event, event_bytes, log_bytes}
 use Rattle.event.specs.Internal.Events.{event_at, own_condition, stored_severity}
 use Rattle.event.specs.Internal.Bits.{events_of, condition_of, head_of, records_of}
+use Rattle.event.specs.Internal.Source.{source_log}
+use Rattle.event.specs.declared.source.Source.{Source}
 use Rattle.event.proofs.Stores.{event-bytes}
 use Rattle.event.proofs.Logs.{log-append, events-split, no-events, no-three}
 
@@ -116,56 +118,59 @@ module _ (alarm : ℕ) (kind : Kind) (suppressed : Bool) (time : ℕ) where
   unfolding log_bytes
   no-log k word h = ap log_bytes (no-three alarm kind suppressed time k word h)
 
+  split-log : (n m k word : ℕ) → log_bytes (events_of alarm kind suppressed time (n + m) k word)
+      ≡ log_bytes (events_of alarm kind suppressed time n k word) ++ log_bytes (events_of alarm kind suppressed time m (k + n) (word / 2 ^ n))
+  split-log n m k word = ap log_bytes (events-split alarm kind suppressed time n m k word) ∙ log-append (events_of alarm kind suppressed time n k word) _
+
+module _ (s : Source) where
   -- the log of the conditions from a place on
-  abbrev pub log_from : ℕ → ℕ → List ℕ
-  log_from place rest = log_bytes (events_of alarm kind suppressed time (3 * (6 - place)) (condition_bit place 0) rest)
+  abbrev pub left : ℕ → ℕ → List ℕ
+  left place rest = source_log s (3 * (6 - place)) (condition_bit place 0) rest
 
   -- the log of the condition at a place
   abbrev pub log_at : ℕ → ℕ → List ℕ
-  log_at place rest = log_bytes (events_of alarm kind suppressed time 3 (condition_bit place 0) rest)
+  log_at place rest = source_log s 3 (condition_bit place 0) rest
 
-  from_next : (place rest : ℕ) → place < 6 → log_from place rest ≡ log_at place rest ++ log_from (place + 1) (rest / 8)
-  from_next place rest h =
+  left_next : (place rest : ℕ) → place < 6 → left place rest ≡ log_at place rest ++ left (place + 1) (rest / 8)
+  left_next place rest h =
       let n : 3 * (6 - place) ≡ 3 + 3 * (6 - (place + 1)) = omega arith in
       let k : condition_bit place 0 + 3 ≡ condition_bit (place + 1) 0 = omega arith in
-      rw n (ap log_bytes (events-split alarm kind suppressed time 3 (3 * (6 - (place + 1))) (condition_bit place 0) rest)
-      ∙ log-append (events_of alarm kind suppressed time 3 (condition_bit place 0) rest) _ ∙ rw k)
+      rw n (split-log s.number (kind_in s.form s.settings.now s.from) s.suppressed s.time 3 (3 * (6 - (place + 1))) (condition_bit place 0) rest ∙ rw k)
 
-  pub length-next : (place rest : ℕ) → place < 6 → length (log_from place rest) ≡ length (log_at place rest) + length (log_from (place + 1) (rest / 8))
-  length-next place rest h = ap length (from_next place rest h) ∙ length-append (log_at place rest) (log_from (place + 1) (rest / 8))
+  pub length-next : (place rest : ℕ) → place < 6 → length (left place rest) ≡ length (log_at place rest) + length (left (place + 1) (rest / 8))
+  length-next place rest h = ap length (left_next place rest h) ∙ length-append (log_at place rest) (left (place + 1) (rest / 8))
 
   pub sets-next : (out : List ℕ) (at place rest : ℕ) → place < 6
-      → sets (sets out at (log_at place rest)) (at + length (log_at place rest)) (log_from (place + 1) (rest / 8)) ≡ sets out at (log_from place rest)
+      → sets (sets out at (log_at place rest)) (at + length (log_at place rest)) (left (place + 1) (rest / 8)) ≡ sets out at (left place rest)
   sets-next out at place rest h =
-      sets-append out at (log_at place rest) (log_from (place + 1) (rest / 8)) ∙ ap (sets out at) (sym (from_next place rest h))
+      sets-append out at (log_at place rest) (left (place + 1) (rest / 8)) ∙ ap (sets out at) (sym (left_next place rest h))
 
-  -- the loop has ended: every place is passed, or no bits are left
-  pub from_end : (place rest : ℕ) → ltb place 6 && not (eqb rest 0) ≡ false → log_from place rest ≡ []
+  -- no bits are left
+  pub none-left : (place rest : ℕ) → rest ≡ 0 → left place rest ≡ []
+  unfolding log_bytes
+  none-left place rest e = rw (e, no-events s.number (kind_in s.form s.settings.now s.from) s.suppressed s.time (3 * (6 - place)) (condition_bit place 0))
+
+  -- every place is passed
+  pub none-behind : (place rest : ℕ) → 6 ≤ place → left place rest ≡ []
   unfolding events_of log_bytes
-  from_end place rest = go (ltb place 6) (eqb rest 0) refl refl
-    where
-      go : (a z : Bool) → ltb place 6 ≡ a → eqb rest 0 ≡ z → a && not z ≡ false → log_from place rest ≡ []
-      go false z p q _ = let n : 3 * (6 - place) ≡ 0 = omega (arith, ltb-false place 6 p) in rw n
-      go true false p q f = absurd (false≢true (sym f))
-      go true true p q _ = rw (eqb-true rest 0 q, no-events alarm kind suppressed time (3 * (6 - place)) (condition_bit place 0))
+  none-behind place rest h = let n : 3 * (6 - place) ≡ 0 = omega arith in rw n
 
-module _ (alarm : ℕ) (kind : Kind) (suppressed : Bool) (time word : ℕ) (small : alarm < 256) where
-  -- the bits of the whole alarm, and those of the conditions
-  abbrev whole : List ℕ
-  whole = records_of time first_condition (head_of alarm 7 1 suppressed 0) word
+  module _ (word : ℕ) (small : s.number < 256) where
+    -- the bits of the whole alarm, and those of the conditions
+    abbrev whole : List ℕ
+    whole = records_of s.time first_condition (head_of s.number 7 1 s.suppressed 0) word
 
-  abbrev rest : List ℕ
-  rest = log_bytes (events_of alarm kind suppressed time 18 first_condition (word / condition_unit))
+    abbrev rest : List ℕ
+    rest = source_log s 18 first_condition (word / condition_unit)
 
-  parts : log_bytes (events_of alarm kind suppressed time word_bits 0 word) ≡ whole ++ rest
-  parts =
-      ap log_bytes (events-split alarm kind suppressed time first_condition 18 0 word)
-      ∙ log-append (events_of alarm kind suppressed time first_condition 0 word) (events_of alarm kind suppressed time 18 first_condition (word / condition_unit))
-      ∙ rw (whole-log alarm kind suppressed time word small)
+    parts : source_log s word_bits 0 word ≡ whole ++ rest
+    parts =
+        split-log s.number (kind_in s.form s.settings.now s.from) s.suppressed s.time first_condition 18 0 word
+        ∙ rw (whole-log s.number (kind_in s.form s.settings.now s.from) s.suppressed s.time word small)
 
-  pub parts-length : length (log_bytes (events_of alarm kind suppressed time word_bits 0 word)) ≡ length whole + length rest
-  parts-length = ap length parts ∙ length-append whole rest
+    pub parts-length : length (source_log s word_bits 0 word) ≡ length whole + length rest
+    parts-length = ap length parts ∙ length-append whole rest
 
-  pub parts-stores : (out : List ℕ) (start : ℕ) {next : ℕ} {l m : List ℕ} → next ≡ start + length whole → l ≡ sets out start whole → m ≡ sets l next rest
-      → m ≡ sets out start (log_bytes (events_of alarm kind suppressed time word_bits 0 word))
-  parts-stores out start a b c = c ∙ rw (a, b, parts) (sets-append out start whole rest)
+    pub parts-stores : (out : List ℕ) (start : ℕ) {next : ℕ} {l m : List ℕ} → next ≡ start + length whole → l ≡ sets out start whole → m ≡ sets l next rest
+        → m ≡ sets out start (source_log s word_bits 0 word)
+    parts-stores out start a b c = c ∙ rw (a, b, parts) (sets-append out start whole rest)

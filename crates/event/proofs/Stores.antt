@@ -1,8 +1,8 @@
 -- Laws of the stores that an event record takes. Assumes nothing.
 use mathlib.Core.Path.{◌≡◌, refl, sym, ap, ◌∙◌}
-use mathlib.Core.List.{List, [], ◌∷◌, ◌++◌, append-nil, append_assoc}
+use mathlib.Core.List.{List, [], ◌∷◌, ◌++◌, append_assoc}
 use mathlib.Core.Bool.{Bool, true, false, cond}
-use Prim.Native.Nat.{ℕ, zero, suc, ◌+◌, ◌*◌, ◌/◌, ◌%◌, ◌^◌, ◌<◌}
+use Prim.Native.Nat.{ℕ, zero, suc, ◌+◌, ◌*◌, ◌-◌, ◌/◌, ◌%◌, ◌^◌, ◌≤◌, ◌<◌}
 use native.Mathlib.Nat.{pow-succ', mul_assoc}
 use native.Mathlib.Omega.{arith}
 use borrow.Author.Tests.{eq-eqb, ne_eqb}
@@ -79,56 +79,28 @@ module _ (time : ℕ) where
       (ap (λ (k : ℕ). sets (sets out at (bytes 8 head)) (at + k) (bytes 8 time)) (sym (length-bytes 8 head))
       ∙ sets-append out at (bytes 8 head) (bytes 8 time))
 
-  -- three bits
-  pub three-length : (head word : ℕ)
-      → length (records_of time 3 head word)
-      ≡ length (record_of time head word) + length (record_of time (head + 65536) (word / 2)) + length (record_of time (head + 65536 + 65536) (word / 2 / 2))
+  -- the bits of a word that are left: the first of them, and those above it
+  left-next : (count bit head word : ℕ) → bit < count
+      → records_of time (count - bit) head word ≡ record_of time head word ++ records_of time (count - (bit + 1)) (head + 65536) (word / 2)
   unfolding records_of
-  three-length head word = simp (length-append, append-nil) (omega arith)
+  left-next count bit head word h = let n : count - bit ≡ suc (count - (bit + 1)) = omega arith in rw n
 
-  pub three-stores : (out : List ℕ) (at head word : ℕ) {second third : ℕ} {l m r : List ℕ}
-      → second ≡ at + length (record_of time head word) → l ≡ sets out at (record_of time head word)
-      → third ≡ second + length (record_of time (head + 65536) (word / 2)) → m ≡ sets l second (record_of time (head + 65536) (word / 2))
-      → r ≡ sets m third (record_of time (head + 65536 + 65536) (word / 2 / 2)) → r ≡ sets out at (records_of time 3 head word)
+  pub left-length : (count bit head word : ℕ) → bit < count
+      → length (records_of time (count - bit) head word)
+      ≡ length (record_of time head word) + length (records_of time (count - (bit + 1)) (head + 65536) (word / 2))
+  left-length count bit head word h =
+      ap length (left-next count bit head word h) ∙ length-append (record_of time head word) (records_of time (count - (bit + 1)) (head + 65536) (word / 2))
+
+  pub left-stores : (out : List ℕ) (at count bit head word : ℕ) → bit < count
+      → sets (sets out at (record_of time head word)) (at + length (record_of time head word)) (records_of time (count - (bit + 1)) (head + 65536) (word / 2))
+      ≡ sets out at (records_of time (count - bit) head word)
+  left-stores out at count bit head word h =
+      sets-append out at (record_of time head word) (records_of time (count - (bit + 1)) (head + 65536) (word / 2))
+      ∙ ap (sets out at) (sym (left-next count bit head word h))
+
+  pub left-none : (count bit head word : ℕ) → count ≤ bit → records_of time (count - bit) head word ≡ []
   unfolding records_of
-  three-stores out at head word a b c d e =
-      let x = record_of time head word in
-      let y = record_of time (head + 65536) (word / 2) in
-      let z = record_of time (head + 65536 + 65536) (word / 2 / 2) in
-      e ∙ rw (c, d, a, b, append-nil z) (sets-append (sets out at x) (at + length x) y z ∙ sets-append out at x (y ++ z))
-
-  -- three bits, and those above them
-  three-more : (n head word : ℕ)
-      → records_of time (suc (suc (suc n))) head word ≡ records_of time 3 head word ++ records_of time n (head + 196608) (word / 8)
-  unfolding records_of
-  three-more n head word =
-      let p : head + 65536 + 65536 + 65536 ≡ head + 196608 = omega arith in
-      let q : word / 2 / 2 / 2 ≡ word / 8 = omega arith in
-      simp (p, q, append_assoc)
-
-  -- nine bits, three by three
-  nine-records : (head word : ℕ)
-      → records_of time 9 head word
-      ≡ records_of time 3 head word ++ (records_of time 3 (head + 196608) (word / 8) ++ records_of time 3 (head + 393216) (word / 64))
-  nine-records head word =
-      let p : head + 196608 + 196608 ≡ head + 393216 = omega arith in
-      let q : word / 8 / 8 ≡ word / 64 = omega arith in
-      three-more 6 head word ∙ ap (λ (l : List ℕ). records_of time 3 head word ++ l) (three-more 3 (head + 196608) (word / 8) ∙ rw (p, q))
-
-  pub nine-length : (head word : ℕ)
-      → length (records_of time 9 head word)
-      ≡ length (records_of time 3 head word) + length (records_of time 3 (head + 196608) (word / 8)) + length (records_of time 3 (head + 393216) (word / 64))
-  nine-length head word = ap length (nine-records head word) ∙ simp length-append (omega arith)
-
-  pub nine-stores : (out : List ℕ) (at head word : ℕ) {second third : ℕ} {l m r : List ℕ}
-      → second ≡ at + length (records_of time 3 head word) → l ≡ sets out at (records_of time 3 head word)
-      → third ≡ second + length (records_of time 3 (head + 196608) (word / 8)) → m ≡ sets l second (records_of time 3 (head + 196608) (word / 8))
-      → r ≡ sets m third (records_of time 3 (head + 393216) (word / 64)) → r ≡ sets out at (records_of time 9 head word)
-  nine-stores out at head word a b c d e =
-      let x = records_of time 3 head word in
-      let y = records_of time 3 (head + 196608) (word / 8) in
-      let z = records_of time 3 (head + 393216) (word / 64) in
-      e ∙ rw (c, d, a, b, nine-records head word) (sets-append (sets out at x) (at + length x) y z ∙ sets-append out at x (y ++ z))
+  left-none count bit head word h = let n : count - bit ≡ 0 = omega arith in rw n
 
   -- no bits, no records
   pub no-records : (n head word q : ℕ) → word ≡ 2 ^ n * q → records_of time n head word ≡ []

@@ -1,4 +1,6 @@
 -- Laws of stores one after the other. Assumes nothing.
+use mathlib.Core.Bool.{Bool, true, false}
+use Rattle.std.specs.Int.{from_bool}
 use mathlib.Core.Path.{◌≡◌, refl, ap, ◌∙◌}
 use mathlib.Core.List.{List, [], ◌∷◌, ◌++◌}
 use Prim.Native.Nat.{ℕ, ◌+◌, ◌≤◌}
@@ -10,6 +12,11 @@ use Rattle.wire.specs.Number.{bytes}
 use Rattle.wire.proofs.Laws.{length-bytes, sets-append}
 use Rattle.host_bytes.specs.Bytes.{flag, row_bytes}
 use Rattle.host_bytes.specs.declared.rows.Row.{Row}
+
+-- a flag by its number
+pub flag-of : (b : Bool) {x : ℕ} → x ≡ from_bool b → x ≡ flag b
+flag-of true e = e
+flag-of false e = e
 
 -- a list stored to the front stands in front of the rest
 pub front : (l xs : List ℕ) → length xs ≤ length l → sets l 0 xs ≡ xs ++ drop (length xs) l

@@ -6,7 +6,7 @@ ghost use Rattle.host_bytes.specs.Bytes.{flag, row_bytes, whole_row, status_row,
 use report::report::AlarmReport;
 use report::status::Status;
 use report::whole::Whole;
-use wire::number::{put_u8, put_u32, put_u64};
+use wire::number::LittleEndian;
 use wire::real::to_pattern;
 
 // Bytes of a row, and of a report.
@@ -15,7 +15,7 @@ const ROW_SIZE: usize = 32;
 pub const REPORT_SIZE: usize = 7 * ROW_SIZE;
 
 // Four flags, a number of four bytes, three of eight.
-#[derive(Clone, Copy)]
+#[derive(Clone, Copy, Debug, PartialEq, Eq)]
 pub struct Row {
     pub one: bool,
     pub two: bool,
@@ -27,20 +27,12 @@ pub struct Row {
     pub third: u64,
 }
 
-fn one(b: bool) -> u8
-    ensures { result ≡ flag b }
-{
-    if b { 1 } else { 0 }
-}
-
 fn put_flags(out: &mut [u8], at: usize, a: bool, b: bool, c: bool, d: bool)
     requires { at + 4 ≤ length out.old }
     ensures { out.new ≡ sets out.old at (flag a ∷ flag b ∷ flag c ∷ flag d ∷ []) }
 {
-    put_u8(out, at, one(a));
-    put_u8(out, at + 1, one(b));
-    put_u8(out, at + 2, one(c));
-    put_u8(out, at + 3, one(d));
+    let flags = [u8::from(a), u8::from(b), u8::from(c), u8::from(d)];
+    out[at..at + 4].copy_from_slice(&flags);
 }
 
 fn put_row(out: &mut [u8], at: usize, row: Row)
@@ -48,10 +40,10 @@ fn put_row(out: &mut [u8], at: usize, row: Row)
     ensures { out.new ≡ sets out.old at (row_bytes row) }
 {
     put_flags(out, at, row.one, row.two, row.three, row.four);
-    put_u32(out, at + 4, row.number);
-    put_u64(out, at + 8, row.first);
-    put_u64(out, at + 16, row.second);
-    put_u64(out, at + 24, row.third);
+    row.number.put(out, at + 4);
+    row.first.put(out, at + 8);
+    row.second.put(out, at + 16);
+    row.third.put(out, at + 24);
 }
 
 // What is said of a whole alarm.
@@ -79,6 +71,7 @@ fn status_row(s: Status) -> Row
         two: s.acked,
         three: false,
         four: false,
+        // `as` narrows what the division left
         number: (s.count % 4_294_967_296) as u32,
         first: s.alarmtime,
         second: s.acktime,
@@ -90,10 +83,8 @@ fn put_statuses(out: &mut [u8], start: usize, conditions: [Status; 6])
     requires { start + 192 ≤ length out.old }
     ensures { out.new ≡ sets out.old start (statuses_bytes conditions) }
 {
-    let mut i = 0;
-    while i < 6 {
-        put_row(out, start + ROW_SIZE * i, status_row(conditions[i]));
-        i += 1;
+    for (i, status) in conditions.iter().enumerate() {
+        put_row(out, start + ROW_SIZE * i, status_row(*status));
     }
 }
 
@@ -102,8 +93,6 @@ pub fn put_report(out: &mut [u8], at: usize, said: AlarmReport)
     requires { at + 224 ≤ length out.old }
     ensures { out.new ≡ sets out.old at (report_bytes said) }
 {
-    let alarm = said.alarm;
-    let conditions = said.conditions;
-    put_row(out, at, whole_row(alarm, said.resettime));
-    put_statuses(out, at + ROW_SIZE, conditions);
+    put_row(out, at, whole_row(said.alarm, said.resettime));
+    put_statuses(out, at + ROW_SIZE, said.conditions);
 }

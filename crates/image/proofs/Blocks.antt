@@ -1,5 +1,5 @@
 -- Alarms read from a settings block by a section's form are the settings' alarms. Assumes nothing.
-use mathlib.Core.Path.{◌≡◌, sym, ap, ◌∙◌}
+use mathlib.Core.Path.{◌≡◌, refl, sym, ap, ◌∙◌}
 use mathlib.Core.List.{List, ◌∷◌}
 use Prim.Native.Nat.{ℕ, ◌+◌, ◌≤◌, ◌<◌}
 use native.Mathlib.Omega.{arith}
@@ -11,11 +11,11 @@ use Rattle.settings.specs.Alarm.{blank, blanks}
 use Rattle.settings.specs.declared.types.Alarm.{Alarm}
 use Rattle.settings.specs.declared.types.Form.{Form}
 use Rattle.settings.specs.declared.types.Form.TheVariants.{Digital as DigitalForm, Analog as AnalogForm}
-use Rattle.layout.specs.Internal.Words.{alarm_in}
+use Rattle.layout.specs.Internal.Words.{alarm_in, form_of}
 use Rattle.layout.specs.Internal.Block.{alarm_at, alarm_on, counts_in, count_in, settings_in}
 use Rattle.layout.proofs.Back.{long-blanks}
 use Rattle.layout.proofs.Laws.{length-placed, placed_below}
-use Rattle.image.specs.Internal.Write.{records_bytes, section_bytes, read_as}
+use Rattle.image.specs.Internal.Write.{record_bytes, records_bytes, section_bytes, read_as}
 use Rattle.image.proofs.Images.{digital_section, analog_section}
 
 pub length-read : (form : Form) (ws : List ℕ) → length (read_as form ws) ≡ 24
@@ -25,6 +25,20 @@ length-read form ws = length-placed (λ p. alarm_in form ws (alarm_at p)) 24 bla
 pub read_at : (form : Form) (ws : List ℕ) (p : ℕ) → p < 24 → get_or (read_as form ws) p blank ≡ alarm_in form ws (alarm_at p)
 unfolding read_as
 read_at form ws p h = placed_below (λ p. alarm_in form ws (alarm_at p)) 24 p blanks blank h (omega (arith, long-blanks))
+
+-- an alarm that was read by a form has that form
+form-read : (form : Form) (ws : List ℕ) (at : ℕ) → form_of (alarm_in form ws at).kind ≡ form
+unfolding alarm_in
+form-read DigitalForm ws at = refl
+form-read AnalogForm ws at = refl
+
+-- so its record is that of the section
+pub record-read : (form : Form) (ws : List ℕ) (p : ℕ) {alarm : Alarm} → p < 24 → alarm ≡ alarm_in form ws (alarm_at p)
+    → record_bytes (form_of alarm.kind) alarm ≡ record_bytes form (get_or (read_as form ws) p blank)
+record-read form ws p h e =
+    (λ i. record_bytes (form_of (e i).kind) (e i))
+    ∙ ap (λ (f : Form). record_bytes f (alarm_in form ws (alarm_at p))) (form-read form ws (alarm_at p))
+    ∙ ap (record_bytes form) (sym (read_at form ws p h))
 
 -- two lists with the same elements from a place to before another have the same part there
 slice-same : (xs ys : List Alarm) (first end : ℕ) → end ≤ length xs → end ≤ length ys

@@ -1,28 +1,31 @@
 // The writer of a settings image.
-ghost use Rattle.std.specs.Prelude.{◌≡◌, ◌+◌, ◌≤◌, ◌<◌, length};
+ghost use Rattle.std.specs.Prelude.{◌≡◌, ◌+◌, ◌*◌, ◌≤◌, ◌<◌, length};
 ghost use Rattle.std.proofs.lemmas.List.Edits.{sets};
 ghost use Rattle.std.proofs.Math.Seq.{slice};
 ghost use Rattle.layout.specs.Internal.Sizes.{settings_size};
 ghost use Rattle.settings.specs.Counts.{all_most};
 ghost use Rattle.settings.specs.Internal.Few.{Few};
 ghost use Rattle.wire.specs.Internal.Words.{words};
-ghost use Rattle.settings_record.specs.Record.{word_place, size_of};
-ghost use Rattle.image.specs.Internal.Write.{severity_words, limit_words, digital_bytes, analog_bytes, record_bytes, records_bytes, section_bytes, read_as, size_of_image, has_room, written_of, image_buffer, write_of, write_buffer};
+ghost use Rattle.settings_record.specs.Record.{size_of};
+ghost use Rattle.image.specs.Internal.Write.{digital_bytes, analog_bytes, record_bytes, records_bytes, section_bytes, read_as};
+ghost use Rattle.image.specs.Internal.Write.{size_of_image, has_room, written_of, image_buffer, write_of, write_buffer};
+ghost use Rattle.layout.specs.Internal.Words.{form_of};
 ghost use Rattle.layout.specs.Internal.Block.{settings_in};
 
 use layout::block::{counts_in, is_block};
 use layout::read::alarm_in;
 use layout::sizes::{ALARM_WORDS, SETTINGS_HEAD};
-use settings::counts::{Counts, MOST, are_good};
+use settings::counts::{Counts, MOST, are_good, sum_of};
 use settings::refusals::{Reason, Refusal};
 use settings::types::{Alarm, Form, Kind, Limits, Severities};
-use settings_record::fields::{
-    ANALOG_DURATION, ANALOG_SIZE, DEADBAND, DIGITAL_DURATION, DIGITAL_SIZE, LIMIT_H, LIMIT_HH,
-    LIMIT_L, LIMIT_LL, LIMIT_ROCNEG, LIMIT_ROCPOS, PERIOD, SEVERITY, SEVERITY_H, SEVERITY_HH,
-    SEVERITY_L, SEVERITY_LL, SEVERITY_ROCNEG, SEVERITY_ROCPOS,
-};
-use wire::number::{put_u8, put_u32};
-use wire::real::put_real;
+use settings_record::fields::{ANALOG_SIZE, DIGITAL_SIZE};
+use wire::number::LittleEndian;
+use wire::real::to_pattern;
+
+// The bytes of a record's flags, and of each number behind them.
+const FLAGS: usize = 1;
+
+const WORD: usize = 4;
 
 // The bytes of the two counts.
 const COUNTS: usize = 2;
@@ -30,38 +33,22 @@ const COUNTS: usize = 2;
 // Bytes of the longest image.
 pub const IMAGE_MOST: usize = COUNTS + MOST * (DIGITAL_SIZE + ANALOG_SIZE);
 
-fn put_severities(out: &mut [u8], at: usize, s: Severities)
-    requires { at + size_of Form.Analog ≤ length out.old }
-    ensures { out.new ≡ sets out.old (word_place at 0) (words (severity_words s)) }
+// Numbers one after the other, four bytes each.
+fn put_words(out: &mut [u8], at: usize, numbers: &[u32])
+    requires { at + 4 * length numbers.now ≤ length out.old }
+    ensures { out.new ≡ sets out.old at (words numbers.now) }
 {
-    put_u32(out, at + SEVERITY_HH, s.hh);
-    put_u32(out, at + SEVERITY_H, s.h);
-    put_u32(out, at + SEVERITY_L, s.l);
-    put_u32(out, at + SEVERITY_LL, s.ll);
-    put_u32(out, at + SEVERITY_ROCPOS, s.rocpos);
-    put_u32(out, at + SEVERITY_ROCNEG, s.rocneg);
-}
-
-fn put_limits(out: &mut [u8], at: usize, g: Limits)
-    requires { at + size_of Form.Analog ≤ length out.old }
-    ensures { out.new ≡ sets out.old (word_place at 6) (words (limit_words g)) }
-{
-    put_real(out, at + LIMIT_HH, g.hh);
-    put_real(out, at + LIMIT_H, g.h);
-    put_real(out, at + LIMIT_L, g.l);
-    put_real(out, at + LIMIT_LL, g.ll);
-    put_real(out, at + DEADBAND, g.deadband);
-    put_real(out, at + LIMIT_ROCPOS, g.rocpos);
-    put_real(out, at + LIMIT_ROCNEG, g.rocneg);
+    for (i, number) in numbers.iter().enumerate() {
+        (*number).put(out, at + WORD * i);
+    }
 }
 
 fn put_digital(out: &mut [u8], at: usize, flags: u8, severity: u32, duration: u32)
     requires { at + size_of Form.Digital ≤ length out.old }
     ensures { out.new ≡ sets out.old at (digital_bytes flags severity duration) }
 {
-    put_u8(out, at, flags);
-    put_u32(out, at + SEVERITY, severity);
-    put_u32(out, at + DIGITAL_DURATION, duration);
+    out[at] = flags;
+    put_words(out, at + FLAGS, &[severity, duration]);
 }
 
 fn put_analog(
@@ -76,45 +63,48 @@ fn put_analog(
     requires { at + size_of Form.Analog ≤ length out.old }
     ensures { out.new ≡ sets out.old at (analog_bytes flags g s period duration) }
 {
-    put_u8(out, at, flags);
-    put_severities(out, at, s);
-    put_limits(out, at, g);
-    put_u32(out, at + PERIOD, period);
-    put_u32(out, at + ANALOG_DURATION, duration);
+    out[at] = flags;
+    let numbers = [
+        s.hh,
+        s.h,
+        s.l,
+        s.ll,
+        s.rocpos,
+        s.rocneg,
+        to_pattern(g.hh),
+        to_pattern(g.h),
+        to_pattern(g.l),
+        to_pattern(g.ll),
+        to_pattern(g.deadband),
+        to_pattern(g.rocpos),
+        to_pattern(g.rocneg),
+        period,
+        duration,
+    ];
+    put_words(out, at + FLAGS, &numbers);
 }
 
 // Writes an alarm's record and answers the offset past it.
-fn put_record(out: &mut [u8], at: usize, form: Form, alarm: Alarm) -> usize
-    requires { at + length (record_bytes form alarm) ≤ length out.old }
-    ensures value { result ≡ at + length (record_bytes form alarm) }
-    ensures out_after { out.new ≡ sets out.old at (record_bytes form alarm) }
+fn put_record(out: &mut [u8], at: usize, alarm: Alarm) -> usize
+    requires { at + length (record_bytes (form_of alarm.kind) alarm) ≤ length out.old }
+    ensures value { result ≡ at + length (record_bytes (form_of alarm.kind) alarm) }
+    ensures out_after { out.new ≡ sets out.old at (record_bytes (form_of alarm.kind) alarm) }
 {
     let flags = alarm.flags;
     let duration = alarm.duration;
-    let kind = alarm.kind;
-    match form {
-        Form::Digital => match kind {
-            Kind::Digital { severity } => {
-                put_digital(out, at, flags, severity, duration);
-                at + DIGITAL_SIZE
-            }
-            Kind::Analog {
-                limits: _,
-                severities: _,
-                period: _,
-            } => at,
-        },
-        Form::Analog => match kind {
-            Kind::Digital { severity: _ } => at,
-            Kind::Analog {
-                limits,
-                severities,
-                period,
-            } => {
-                put_analog(out, at, flags, limits, severities, period, duration);
-                at + ANALOG_SIZE
-            }
-        },
+    match alarm.kind {
+        Kind::Digital { severity } => {
+            put_digital(out, at, flags, severity, duration);
+            at + DIGITAL_SIZE
+        }
+        Kind::Analog {
+            limits,
+            severities,
+            period,
+        } => {
+            put_analog(out, at, flags, limits, severities, period, duration);
+            at + ANALOG_SIZE
+        }
     }
 }
 
@@ -132,12 +122,10 @@ fn put_records(
     ensures value { result ≡ start + length (records_bytes form (slice first end (read_as form words.now))) }
     ensures out_after { out.new ≡ sets out.old start (records_bytes form (slice first end (read_as form words.now))) }
 {
-    let mut place = first;
     let mut at = start;
-    while place < end {
+    for place in first..end {
         let alarm = alarm_in(words, SETTINGS_HEAD + ALARM_WORDS * place, form);
-        at = put_record(out, at, form, alarm);
-        place += 1;
+        at = put_record(out, at, alarm);
     }
     at
 }
@@ -155,7 +143,8 @@ fn put_section(
     ensures value { result ≡ at + length (section_bytes form first count (read_as form words.now)) }
     ensures out_after { out.new ≡ sets out.old at (section_bytes form first count (read_as form words.now)) }
 {
-    put_u8(out, at, count as u8);
+    // `as` narrows: a count is at most 12
+    out[at] = count as u8;
     put_records(out, at + 1, form, first, first + count, words)
 }
 
@@ -164,7 +153,7 @@ fn image_size(counts: Counts) -> usize
     requires { Few counts }
     ensures { result ≡ size_of_image counts }
 {
-    COUNTS + DIGITAL_SIZE * counts.digital + ANALOG_SIZE * counts.analog
+    COUNTS + sum_of(counts, DIGITAL_SIZE, ANALOG_SIZE)
 }
 
 // Whether settings with these counts have an image of at most `len` bytes.

@@ -1,11 +1,11 @@
 -- The settings block as it is written: zeros, the head, then alarm by alarm. Assumes nothing.
 use mathlib.Core.List.{List, ◌++◌}
-use mathlib.Core.Path.{◌≡◌, refl, sym, ap, ◌∙◌}
+use mathlib.Core.Path.{◌≡◌, refl, ap, ◌∙◌}
 use Prim.Native.Nat.{ℕ, ◌+◌, ◌≤◌, ◌<◌}
 use native.Mathlib.Numerals.{add-one}
 use native.Mathlib.Omega.{arith}
-use lib.ListN.{length, get_or, set, drop, replicate, length-replicate, get_or-replicate, drop_of_length-le}
-use lib.Seq.{sets, sets-eq, drop-cons, get_or-set_same, get_or-set_other, ext_get_or}
+use lib.ListN.{length, get_or, drop, replicate, length-replicate, drop_of_length-le}
+use lib.Seq.{sets, sets-eq, drop-cons}
 use Rattle.wire.proofs.Laws.{below, sets-append}
 use Rattle.settings.specs.Alarm.{blank}
 use Rattle.settings.specs.declared.types.Alarm.{Alarm}
@@ -13,18 +13,6 @@ use Rattle.settings.specs.declared.types.Settings.{Settings}
 use Rattle.layout.specs.Internal.Words.{form_of, alarm_in, alarm_words}
 use Rattle.layout.specs.Internal.Block.{layout_word, alarm_at, head_words, alarms_words, settings_words, Says, counts_in}
 use Rattle.layout.proofs.Laws.{length-alarm, length-alarms, place-below}
-
--- ---- zeros
-
-pub cleared-next : (ws : List ℕ) (i : ℕ) → i < length ws → ((k : ℕ) → k < i → get_or ws k 0 ≡ 0) → (k : ℕ) → k < i + 1 → get_or (set ws i 0) k 0 ≡ 0
-cleared-next ws i h old k m =
-    below (λ (q : ℕ). get_or (set ws i 0) q 0 ≡ 0) (omega arith) (get_or-set_same ws i 0 0 h)
-    (λ l. get_or-set_other ws i k 0 0 (λ e. omega arith) ∙ old k l)
-
-pub cleared : (ws us : List ℕ) → length ws ≡ length us → ((k : ℕ) → k < length us → get_or ws k 0 ≡ 0) → ws ≡ replicate (length us) 0
-cleared ws us e h =
-    ext_get_or 0 ws (replicate (length us) 0) (e ∙ sym (length-replicate (length us) 0))
-    (λ k m. h k (omega arith) ∙ sym (get_or-replicate (length us) k 0 0 (omega arith)))
 
 -- ---- alarms, place by place
 

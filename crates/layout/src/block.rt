@@ -16,33 +16,31 @@ use settings::types::{Alarm, Settings};
 pub fn is_block(words: &[u64]) -> bool
     ensures { result ≡ is_block words.now }
 {
-    if words.len() == SETTINGS_WORDS {
-        words[0] == LAYOUT_WORD
-    } else {
-        false
-    }
+    words.len() == SETTINGS_WORDS && words[0] == LAYOUT_WORD
 }
 
-// The counts that a block says.
+// The counts that a block says. Here and where they are written `as` stays: no From stands between u64 and usize.
 pub fn counts_in(words: &[u64]) -> Counts
-    requires { 4 ≤ length words.now }
     ensures { result ≡ counts_in words.now }
 {
     Counts {
-        digital: words[DIGITAL_COUNT] as usize,
-        analog: words[ANALOG_COUNT] as usize,
+        digital: word_at(words, DIGITAL_COUNT) as usize,
+        analog: word_at(words, ANALOG_COUNT) as usize,
     }
 }
 
-// Every word 0, so that no place keeps what stood there.
+// The word at a place; 0 behind the last.
+fn word_at(words: &[u64], at: usize) -> u64
+    ensures { result ≡ get_or words.now at 0 }
+{
+    words.get(at).copied().unwrap_or(0)
+}
+
+// Every word 0, so that no place keeps what stood there. A name of its own, since `fill` promises this by a clause on clones.
 pub fn clear(words: &mut [u64])
     ensures { words.new ≡ replicate (length words.old) 0 }
 {
-    let mut i = 0;
-    while i < words.len() {
-        words[i] = 0;
-        i += 1;
-    }
+    words.fill(0);
 }
 
 // The layout word, the counts, and 0 where a third count has room.
@@ -50,10 +48,8 @@ fn put_head(words: &mut [u64], counts: Counts)
     requires { 4 ≤ length words.old }
     ensures { words.new ≡ sets words.old 0 (head_words counts) }
 {
-    words[0] = LAYOUT_WORD;
-    words[DIGITAL_COUNT] = counts.digital as u64;
-    words[ANALOG_COUNT] = counts.analog as u64;
-    words[3] = 0;
+    let head = [LAYOUT_WORD, counts.digital as u64, counts.analog as u64, 0];
+    words[..SETTINGS_HEAD].copy_from_slice(&head);
 }
 
 // Writes each alarm at its place. The array's length is said for the caller, who holds it in a struct and doesn't see it.
@@ -63,10 +59,8 @@ fn put_alarms(words: &mut [u64], alarms: [Alarm; ALARMS])
     ensures says { Says alarms all_most words.new }
     ensures alarms_len { length alarms ≡ all_most }
 {
-    let mut place = 0;
-    while place < ALARMS {
-        put_alarm(words, SETTINGS_HEAD + ALARM_WORDS * place, alarms[place]);
-        place += 1;
+    for (place, alarm) in alarms.iter().enumerate() {
+        put_alarm(words, SETTINGS_HEAD + ALARM_WORDS * place, *alarm);
     }
 }
 
@@ -77,9 +71,7 @@ pub fn put_settings(words: &mut [u64], settings: Settings)
     ensures says { Says settings.alarms all_most words.new }
     ensures head { (get_or words.new 0 0 ≡ layout_word) × (counts_in words.new ≡ settings.counts) }
 {
-    let counts = settings.counts;
-    let alarms = settings.alarms;
     clear(words);
-    put_head(words, counts);
-    put_alarms(words, alarms);
+    put_head(words, settings.counts);
+    put_alarms(words, settings.alarms);
 }

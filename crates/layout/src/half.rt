@@ -9,6 +9,7 @@ use wire::real::{from_pattern, to_pattern};
 // 2 to the 32: what a one in the upper half counts.
 pub const HALF: u64 = 0x1_0000_0000;
 
+// Here and in the next two `as` narrows what the division left: TryFrom would ask what is proved.
 pub fn lower(w: u64) -> u32
     ensures { result ≡ lower_of w }
 {
@@ -31,14 +32,7 @@ pub fn lowest(w: u64) -> u8
 pub fn pair(l: u32, h: u32) -> u64
     ensures { (result ≡ pair_of l h) × (lower_of result ≡ l) × (upper_of result ≡ h) }
 {
-    l as u64 + HALF * (h as u64)
-}
-
-// A byte in the lower half.
-pub fn byte_pair(l: u8, h: u32) -> u64
-    ensures { (result ≡ pair_of l h) × (result % 256 ≡ l) × (upper_of result ≡ h) }
-{
-    l as u64 + HALF * (h as u64)
+    u64::from(l) + HALF * u64::from(h)
 }
 
 pub fn lower_real(w: u64) -> f32

@@ -1,4 +1,5 @@
-// An alarm's settings, read from its 8 words: single numbers, for a step that needs no struct, and the whole.
+// An alarm's settings, read from its 8 words: single numbers, for a step that needs no struct, and the whole. Each asks for the
+// same 8 words by their offset: a slice of them would cost a step the cut, and a proof the way back to the block.
 ghost use Rattle.std.specs.Prelude.{◌≡◌, ◌+◌, ◌≤◌, length};
 ghost use Rattle.layout.specs.Internal.Words.{flags_in, duration_in, period_in, limits_in, severity_in, severities_in, kind_in, alarm_in};
 
@@ -71,35 +72,19 @@ pub fn severities_in(words: &[u64], at: usize) -> Severities
     }
 }
 
-fn digital_kind(words: &[u64], at: usize) -> Kind
-    requires { at + 8 ≤ length words.now }
-    ensures { result ≡ kind_in Form.Digital words.now at }
-{
-    let severity = severity_in(words, at);
-    Kind::Digital { severity }
-}
-
-fn analog_kind(words: &[u64], at: usize) -> Kind
-    requires { at + 8 ≤ length words.now }
-    ensures { result ≡ kind_in Form.Analog words.now at }
-{
-    let limits = limits_in(words, at);
-    let severities = severities_in(words, at);
-    let period = period_in(words, at);
-    Kind::Analog {
-        limits,
-        severities,
-        period,
-    }
-}
-
 fn kind_in(words: &[u64], at: usize, form: Form) -> Kind
     requires { at + 8 ≤ length words.now }
     ensures { result ≡ kind_in form words.now at }
 {
     match form {
-        Form::Digital => digital_kind(words, at),
-        Form::Analog => analog_kind(words, at),
+        Form::Digital => Kind::Digital {
+            severity: severity_in(words, at),
+        },
+        Form::Analog => Kind::Analog {
+            limits: limits_in(words, at),
+            severities: severities_in(words, at),
+            period: period_in(words, at),
+        },
     }
 }
 
@@ -107,12 +92,9 @@ pub fn alarm_in(words: &[u64], at: usize, form: Form) -> Alarm
     requires { at + 8 ≤ length words.now }
     ensures { result ≡ alarm_in form words.now at }
 {
-    let kind = kind_in(words, at, form);
-    let flags = flags_in(words, at);
-    let duration = duration_in(words, at);
     Alarm {
-        flags,
-        duration,
-        kind,
+        flags: flags_in(words, at),
+        duration: duration_in(words, at),
+        kind: kind_in(words, at, form),
     }
 }

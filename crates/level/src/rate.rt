@@ -21,6 +21,7 @@ fn period_real(period: u32) -> f32
     ensures { result ≡ period_real period }
 {
     if period <= 16_777_216 {
+        // no `From`: a u32 may lose digits as an f32, and up to here it loses none
         period as f32
     } else {
         16_777_216.0

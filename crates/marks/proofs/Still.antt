@@ -1,13 +1,11 @@
 -- A scan without events marks nothing. Assumes nothing.
-use mathlib.Core.Bool.{Bool, true, false, not, ◌&&◌, ◌||◌, false≢true}
+use mathlib.Core.Bool.{Bool, false}
 use mathlib.Core.List.{List}
 use mathlib.Core.Path.{◌≡◌, refl, sym, ap, ◌∙◌}
 use Prim.Native.Nat.{ℕ, zero, suc, ◌+◌, ◌*◌, ◌-◌, ◌/◌, ◌%◌, ◌^◌, ◌≤◌, ◌<◌}
 use native.Mathlib.Nat.{zero-div, zero-add}
 use native.Mathlib.Omega.{arith}
 use native.Mathlib.Numerals.{add-one, add-two, add-three}
-use borrow.Author.Tests.{ltb-false, eqb-true}
-use lib.Dec.{eqb, ltb}
 use lib.ListN.{get_or, set}
 use lib.Seq.{set-get_or}
 use Rattle.wire.specs.Bits.{bit}
@@ -68,19 +66,10 @@ module _ (required : Bool) (starts : List ℕ) (word time base n : ℕ) (xs : Li
       let c = bit-above word (condition_bit n 0) (condition_bit (k + n) 2) e (omega arith) in
       rw (p, r, a, b, c) (condition-still required (get_or starts (k + n) 0) time (base + 4 * (k + n)) _ ∙ conditions-left k r e)
 
-  -- the loop has ended: every condition is marked, or nothing is left to do
-  pub conditions-end : {rest : ℕ} → n ≤ 6 → rest ≡ from_condition n word → ltb n 6 && (bit word 4 || not (eqb rest 0)) ≡ false
+  -- no events are left, and no counts are reset
+  pub conditions-done : {rest : ℕ} → n ≤ 6 → rest ≡ from_condition n word → rest ≡ 0 → bit word 4 ≡ false
       → mark_conditions required starts word time base n xs ≡ mark_conditions required starts word time base 6 xs
-  conditions-end {rest} h e = go (ltb n 6) (bit word 4) (eqb rest 0) refl refl refl
-    where
-      go : (a r z : Bool) → ltb n 6 ≡ a → bit word 4 ≡ r → eqb rest 0 ≡ z → a && (r || not z) ≡ false
-          → mark_conditions required starts word time base n xs ≡ mark_conditions required starts word time base 6 xs
-      go false r z p q s _ = let m : n ≡ 6 = omega (arith, ltb-false n 6 p) in rw m
-      go true true z p q s f = absurd (false≢true (sym f))
-      go true false false p q s f = absurd (false≢true (sym f))
-      go true false true p q s _ =
-          let m : (6 - n) + n ≡ 6 = omega arith in
-          sym (rw m at (conditions-left (6 - n) q (sym e ∙ eqb-true rest 0 s)))
+  conditions-done h e z q = let m : (6 - n) + n ≡ 6 = omega arith in sym (rw m at (conditions-left (6 - n) q (sym e ∙ z)))
 
 pub alarm-still : (required : Bool) (starts : List ℕ) (time at : ℕ) (xs : List ℕ) {word : ℕ} → word ≡ 0 → mark_alarm required starts word time at xs ≡ xs
 unfolding mark_alarm

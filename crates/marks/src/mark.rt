@@ -5,9 +5,9 @@ ghost use Rattle.layout.specs.Internal.Words.{alarm_in};
 ghost use Rattle.marks.specs.Internal.Marks.{mark_conditions, mark_alarm, starts_in};
 
 use crate::words::{CONDITION_WORDS, mark_turn};
-use condition::row::choose;
 use layout::read::flags_in;
 use settings::types::Form;
+use wire::choice::choose;
 use wire::places::{CONDITIONS, COUNT_RESET};
 
 // AckRequired, from the alarm's settings.
@@ -38,8 +38,10 @@ fn mark_conditions(
 {
     let reset = events / COUNT_RESET % 2 == 1;
     let mut rest = events / CONDITIONS;
-    let mut place = 0;
-    while (place < 6) & (reset | (rest != 0)) {
+    for place in 0..6 {
+        if rest == 0 && !reset {
+            return;
+        }
         mark_turn(
             marks,
             base + CONDITION_WORDS * place,
@@ -50,8 +52,7 @@ fn mark_conditions(
             from + place,
             time,
         );
-        rest = rest / 8;
-        place += 1;
+        rest /= 8;
     }
 }
 

@@ -3,7 +3,7 @@ ghost use Rattle.std.specs.Prelude.{◌≡◌, ◌+◌, ◌≤◌, ◌<◌, leng
 ghost use Rattle.marks.specs.Internal.Marks.{mark_condition, turn_by};
 
 use condition::mark::{ack_stamp, count_after};
-use condition::row::choose;
+use wire::choice::choose;
 
 // The words of a condition.
 pub const CONDITION_WORDS: usize = 4;

@@ -1,4 +1,4 @@
-// What a call answers: the number of a refusal as the result, and words.
+// What a call answers: the number of a refusal as the result, and words. `as` stays here: no From stands between usize and u64.
 ghost use Rattle.std.specs.Prelude.{◌≡◌};
 ghost use Rattle.meifgur_c.specs.Calls.{number_in, reply_words, counted_words, load_words, replay_words};
 

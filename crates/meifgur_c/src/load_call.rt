@@ -1,5 +1,5 @@
 // The call that makes a bank of a settings image.
-ghost use Rattle.std.specs.Prelude.{◌≡◌, length, get_or};
+ghost use Rattle.std.specs.Prelude.{◌≡◌, length};
 ghost use Rattle.std.proofs.lemmas.List.Edits.{sets};
 ghost use Rattle.layout.specs.Internal.Block.{counts_in};
 ghost use Rattle.bank.specs.Internal.Words.{words_in};
@@ -9,25 +9,7 @@ ghost use Rattle.meifgur_c.specs.Calls.{unless, short_answer, number_in, load_an
 use crate::answers::{LOAD_ANSWER, SHORT_ANSWER, load_words, number_in};
 use bank::load::load;
 use host_bytes::answer::put_words;
-use layout::sizes::{ANALOG_COUNT, DIGITAL_COUNT};
-use settings::counts::Counts;
-
-// The word at a place; 0 behind the last.
-fn word_at(words: &[u64], at: usize) -> u64
-    ensures { result ≡ get_or words.now at 0 }
-{
-    if at < words.len() { words[at] } else { 0 }
-}
-
-// The counts in a block of any length.
-fn counts_of(words: &[u64]) -> Counts
-    ensures { result ≡ counts_in words.now }
-{
-    Counts {
-        digital: word_at(words, DIGITAL_COUNT) as usize,
-        analog: word_at(words, ANALOG_COUNT) as usize,
-    }
-}
+use layout::block::counts_in;
 
 // Writes the bank of a settings image, or of a refused one a bank without alarms. Blocks of other lengths are left.
 #[unsafe(no_mangle)]
@@ -54,7 +36,7 @@ pub extern "C" fn meifgur_load_words(
         return SHORT_ANSWER;
     }
     let reply = load(image, settings, states, marks);
-    let counts = counts_of(settings);
+    let counts = counts_in(settings);
     put_words(answer, &load_words(reply, counts));
     number_in(reply)
 }

@@ -1,4 +1,4 @@
-// Sizes that a caller needs before it lends buffers.
+// Sizes that a caller needs before it lends buffers. `as` stays here: no From leads from usize to u32.
 ghost use Rattle.std.specs.Prelude.{◌≡◌};
 ghost use Rattle.layout.specs.Internal.Sizes.{marks_size, settings_size, states_size};
 ghost use Rattle.scan_record.specs.Internal.Size.{length_of};

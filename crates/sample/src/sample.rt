@@ -9,9 +9,11 @@ ghost use Rattle.layout.specs.Internal.Words.{lower_of};
 ghost use Rattle.settings.specs.Numbers.{new_rate};
 ghost use Rattle.sample.specs.Internal.Sample.{stays_in, rate_in, sample_in, sampled_in};
 
-use condition::row::{choose, elapsed};
+use condition::row::elapsed;
 use layout::half::{lower, pair, upper};
 use level::rate::rate_pattern;
+use wire::bits::is_set;
+use wire::choice::choose;
 use wire::places::SAMPLED;
 use wire::real::to_pattern;
 
@@ -19,24 +21,17 @@ use wire::real::to_pattern;
 fn stays_in(flags: u32, period: u32, sampled: u64, time: u64) -> bool
     ensures { result ≡ stays_in flags period sampled time }
 {
-    (flags / SAMPLED % 2 == 1) & !(period as u64 <= elapsed(sampled, time))
+    is_set(flags, SAMPLED) & (elapsed(sampled, time) < u64::from(period))
 }
 
 // The pattern of a rate that does not stay: from the stored value to a new one, or 0 where there is none.
 fn new_rate(flags: u32, enabled: bool, period: u32, stored: u64, x: f32) -> u32
     ensures { result ≡ cond (enabled && bit flags sampled_flag) (to_bits binary32 (new_rate period (of_bits binary32 (lower_of stored)) x)) 0 }
 {
-    if enabled & (flags / SAMPLED % 2 == 1) {
+    if enabled & is_set(flags, SAMPLED) {
         return rate_pattern(period, lower(stored), x);
     }
     0
-}
-
-// The pattern that stays, or that of a REAL.
-fn value_in(stays: bool, pattern: u32, x: f32) -> u32
-    ensures { result ≡ cond stays pattern (to_bits binary32 x) }
-{
-    if stays { pattern } else { to_pattern(x) }
 }
 
 // Stores the sample after a scan in the two words from `at` on, and answers the pattern of the rate. Most scans keep both.
@@ -62,7 +57,7 @@ pub fn resample(
         return upper(stored);
     }
     let rate = new_rate(flags, enabled, period, stored, x);
-    let value = value_in(stays, lower(stored), x);
+    let value = choose(stays, lower(stored), to_pattern(x));
     states[at] = pair(value, rate);
     states[at + 1] = choose(stays, sampled, time);
     rate

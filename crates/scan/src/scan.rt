@@ -12,7 +12,7 @@ use event::write::EVENT_SIZE;
 use layout::block::counts_in;
 use layout::sizes::{MARKS_WORDS, STATES_WORDS};
 use scan_record::check::check_record;
-use settings::counts::{Counts, MOST};
+use settings::counts::{Counts, MOST, sum_of};
 use settings::refusals::{Reason, Refusal};
 use sweep::alarms::scan_alarms;
 
@@ -29,7 +29,7 @@ fn most_bytes(counts: Counts) -> usize
     requires { Few counts }
     ensures { result ≡ most_bytes counts }
 {
-    DIGITAL_MOST * counts.digital + ANALOG_MOST * counts.analog
+    sum_of(counts, DIGITAL_MOST, ANALOG_MOST)
 }
 
 // Runs a checked record where the buffer may be too short: on copies, with a buffer that suffices, and takes them over if it was

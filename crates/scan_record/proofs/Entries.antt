@@ -18,7 +18,7 @@ use Rattle.std.proofs.Common.{Result, Ok, Err}
 use Rattle.settings.specs.declared.refusals.Refusal.{Refusal}
 use Rattle.settings.specs.declared.refusals.Reason.TheVariants.{UnknownCommand, WrongLength, EarlierTime}
 use Rattle.scan_record.specs.Entry.{bits_of, reading_check, entry_in, entry_at}
-use Rattle.scan_record.specs.Part.{record_size, time_of, offset_of, reading_at, word_at, entry_size}
+use Rattle.scan_record.specs.Part.{record_size, time_of, offset_of, word_at, entry_size}
 use Rattle.settings.specs.Counts.{are_good, in_all, form_at}
 use Rattle.settings.specs.Internal.Few.{Few}
 use Rattle.settings.specs.declared.counts.Counts.{Counts}

@@ -9,16 +9,16 @@ ghost use Rattle.scan_record.specs.Check.{check_from, check_record};
 
 use crate::entry::entry_at;
 use crate::part::{ANALOG_PART, DIGITAL_PART, TIME_SIZE};
-use settings::counts::{Counts, are_good, in_all};
+use settings::counts::{Counts, are_good, in_all, sum_of};
 use settings::refusals::{Reason, Refusal};
 use settings::types::Form;
-use wire::number::get_u64;
+use wire::number::LittleEndian;
 
 fn length_of(counts: Counts) -> usize
     requires { Few counts }
     ensures { result ≡ record_size counts }
 {
-    TIME_SIZE + DIGITAL_PART * counts.digital + ANALOG_PART * counts.analog
+    TIME_SIZE + sum_of(counts, DIGITAL_PART, ANALOG_PART)
 }
 
 // The length of the records of a bank with these counts.
@@ -83,7 +83,7 @@ pub fn check_record(bytes: &[u8], counts: Counts, last: u64) -> Result<(), Refus
     if !is_whole(counts, bytes.len()) {
         return Err(Reason::WrongLength.at(0));
     }
-    if get_u64(bytes, 0) < last {
+    if u64::get(bytes, 0) < last {
         return Err(Reason::EarlierTime.at(0));
     }
     check_alarms(bytes, counts)

@@ -11,7 +11,7 @@ ghost use Rattle.scan_record.specs.Entry.{bits_of, entry_at};
 use crate::part::{ANALOG_PART, ANALOG_WORD, DIGITAL_PART, DIGITAL_WORD};
 use settings::refusals::{Reason, Refusal};
 use settings::types::{Form, Reading};
-use wire::number::get_u32;
+use wire::number::LittleEndian;
 use wire::real::from_pattern;
 
 // An alarm's part, decoded, and the offset past it.
@@ -58,12 +58,13 @@ fn is_bounded_pattern(pattern: u32) -> bool
     pattern % SIGN <= LARGEST
 }
 
+// No function for both forms is plainer: they read a byte or a REAL, and refuse it for other reasons.
 fn digital_entry(bytes: &[u8], at: usize, alarm: usize) -> Result<Entry, Refusal>
     requires { at + 5 ≤ length bytes.now }
     ensures { result ≡ entry_at Form.Digital bytes.now at alarm }
 {
     let input = bytes[at];
-    let word = get_u32(bytes, at + DIGITAL_WORD);
+    let word = u32::get(bytes, at + DIGITAL_WORD);
     if HIGHEST_INPUT < input {
         return Err(Reason::NotABit.at(alarm));
     }
@@ -81,8 +82,8 @@ fn analog_entry(bytes: &[u8], at: usize, alarm: usize) -> Result<Entry, Refusal>
     requires { at + 8 ≤ length bytes.now }
     ensures { result ≡ entry_at Form.Analog bytes.now at alarm }
 {
-    let pattern = get_u32(bytes, at);
-    let word = get_u32(bytes, at + ANALOG_WORD);
+    let pattern = u32::get(bytes, at);
+    let word = u32::get(bytes, at + ANALOG_WORD);
     let within = is_bounded_pattern(pattern);
     let is_beyond = !within;
     if is_beyond {

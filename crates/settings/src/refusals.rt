@@ -42,6 +42,7 @@ pub struct Refusal {
 }
 
 impl Reason {
+    // `as` takes the number of an enum.
     pub fn number(self) -> u32
         ensures { result ≡ number_of self }
     {

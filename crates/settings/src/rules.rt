@@ -1,6 +1,7 @@
 // The rules that an analog alarm's numbers obey: their ranges, and the order of its levels.
-ghost use Rattle.std.specs.Prelude.{◌≡◌, not, ◌&&◌, ◌||◌, cond};
+ghost use Rattle.std.specs.Prelude.{◌≡◌, not, ◌&&◌, ◌||◌};
 ghost use Rattle.std.specs.Float.Ieee.{lt};
+ghost use Rattle.settings.specs.Condition.{on, HH, H, L, LL};
 ghost use Rattle.settings.specs.Numbers.{reals, real_limit};
 ghost use Rattle.settings.specs.Rules.{limits_in_range, in_range, rising, banded, apart};
 
@@ -22,45 +23,76 @@ pub fn numbers_in_range(g: Limits, period: u32, duration: u32) -> bool
     limits_in_range(g) & (period <= 3_600_000) & (duration <= 0x7FFF_FFFF)
 }
 
-// Whether a lower and an upper level stand in order, which counts only where both are enabled.
-fn in_order(on: bool, x: f32, upper: bool, y: f32) -> bool
-    ensures { result ≡ not (on && upper) || lt x y }
-{
-    !(on & upper) | (x < y)
+// A level: whether the flags enable it, and its limit.
+#[derive(Clone, Copy)]
+struct Level {
+    enabled: bool,
+    limit: f32,
 }
 
+// The four levels of an analog alarm.
+#[derive(Clone, Copy)]
+struct Levels {
+    hh: Level,
+    h: Level,
+    l: Level,
+    ll: Level,
+}
+
+// The levels by the flags' four lowest bits.
+fn levels_of(flags: u8, g: Limits) -> Levels
+    ensures enabled { (result.hh.enabled ≡ on flags HH) × (result.h.enabled ≡ on flags H) ×
+        (result.l.enabled ≡ on flags L) × (result.ll.enabled ≡ on flags LL) }
+    ensures limits { (result.hh.limit ≡ g.hh) × (result.h.limit ≡ g.h) × (result.l.limit ≡ g.l) × (result.ll.limit ≡ g.ll) }
+{
+    Levels {
+        hh: Level {
+            enabled: flags % 2 == 1,
+            limit: g.hh,
+        },
+        h: Level {
+            enabled: flags / 2 % 2 == 1,
+            limit: g.h,
+        },
+        l: Level {
+            enabled: flags / 4 % 2 == 1,
+            limit: g.l,
+        },
+        ll: Level {
+            enabled: flags / 8 % 2 == 1,
+            limit: g.ll,
+        },
+    }
+}
+
+// Whether a lower and an upper level stand in order, which counts only where both are enabled.
+fn in_order(lower: Level, upper: Level) -> bool
+    ensures { result ≡ not (lower.enabled && upper.enabled) || lt lower.limit upper.limit }
+{
+    !(lower.enabled & upper.enabled) | (lower.limit < upper.limit)
+}
+
+// Each pair by itself: six tests are plainer than a walk over pairs.
 fn levels_rise(flags: u8, g: Limits) -> bool
     ensures { result ≡ rising reals flags (real_limit g) }
 {
-    let hh = flags % 2 == 1;
-    let h = flags / 2 % 2 == 1;
-    let l = flags / 4 % 2 == 1;
-    let ll = flags / 8 % 2 == 1;
-    in_order(ll, g.ll, l, g.l)
-        & in_order(ll, g.ll, h, g.h)
-        & in_order(ll, g.ll, hh, g.hh)
-        & in_order(l, g.l, h, g.h)
-        & in_order(l, g.l, hh, g.hh)
-        & in_order(h, g.h, hh, g.hh)
-}
-
-fn either(c: bool, x: f32, y: f32) -> f32
-    ensures { result ≡ cond c x y }
-{
-    if c { x } else { y }
+    let Levels { hh, h, l, ll } = levels_of(flags, g);
+    in_order(ll, l)
+        & in_order(ll, h)
+        & in_order(ll, hh)
+        & in_order(l, h)
+        & in_order(l, hh)
+        & in_order(h, hh)
 }
 
 fn sides_apart(flags: u8, g: Limits) -> bool
     ensures { result ≡ banded reals flags (real_limit g) g.deadband }
 {
-    let hh = flags % 2 == 1;
-    let h = flags / 2 % 2 == 1;
-    let l = flags / 4 % 2 == 1;
-    let ll = flags / 8 % 2 == 1;
-    let low = either(l, g.l, g.ll);
-    let high = either(h, g.h, g.hh);
+    let Levels { hh, h, l, ll } = levels_of(flags, g);
+    let low = if l.enabled { l.limit } else { ll.limit };
+    let high = if h.enabled { h.limit } else { hh.limit };
     let apart = (low < high - g.deadband) & (low + g.deadband < high);
-    !((hh | h) & (l | ll)) | apart
+    !((hh.enabled | h.enabled) & (l.enabled | ll.enabled)) | apart
 }
 
 // The rules on the order of levels and on Deadband, refusal 5.

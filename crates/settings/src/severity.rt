@@ -5,21 +5,24 @@ ghost use Rattle.settings.specs.Severity.{acting, severity_invalid};
 // The highest severity that acts as it is.
 const HIGHEST: u32 = 1000;
 
+// The first of the numbers that stand for negative DINTs.
+const NEGATIVE: u32 = 0x8000_0000;
+
 // A DINT below 1 acts as 1, above 1000 as 1000.
+#[tactic(auto, unfolding(crate::specs::Severity::acting))]
 pub fn acting_severity(s: u32) -> u16
     ensures { result ≡ acting s }
 {
-    if s == 0 {
-        return 1;
+    match s {
+        0 | NEGATIVE.. => 1,
+        // `as` narrows what the arm has bounded
+        1..=HIGHEST => s as u16,
+        _ => 1000,
     }
-    if 2_147_483_647 < s {
-        return 1;
-    }
-    if HIGHEST < s { 1000 } else { s as u16 }
 }
 
 pub fn is_invalid(s: u32) -> bool
     ensures { result ≡ severity_invalid s }
 {
-    ((s == 0) | (2_147_483_647 < s)) | ((1000 < s) & (s <= 2_147_483_647))
+    !matches!(s, 1..=HIGHEST)
 }

@@ -10,7 +10,7 @@ use lib.ListN.{length}
 use Rattle.settings.specs.Refusals.{checked, refusal}
 use Rattle.settings.specs.declared.types.Alarm.{Alarm}
 use Rattle.settings.specs.declared.types.Form.{Form}
-use Rattle.std.proofs.Common.{Result, Ok, Err}
+use Rattle.std.proofs.Common.{Ok, Err}
 use Rattle.settings.specs.declared.refusals.Refusal.{Refusal}
 use Rattle.settings.specs.declared.refusals.Reason.TheVariants.{Incomplete}
 use Rattle.settings_record.specs.Record.{size_of, fields_at, checks_of, record_at}

@@ -11,25 +11,25 @@ use crate::fields::{
 use settings::refusals::{Reason, Refusal};
 use settings::rules::{levels_apart, numbers_in_range};
 use settings::types::{Alarm, Form, Kind, Limits, Severities};
-use wire::number::{get_u32, has};
-use wire::real::get_real;
+use wire::number::{LittleEndian, has};
 
 // What a one counts behind the last flag of each form.
 const DIGITAL_FLAGS: u8 = 8;
 
 const ANALOG_FLAGS: u8 = 32;
 
+// Fields by name and no loop over offsets: which stands where is what a reader looks for.
 fn severities_at(image: &[u8], at: usize) -> Severities
     requires { at + size_of Form.Analog ≤ length image.now }
     ensures { result ≡ severities_at image.now at }
 {
     Severities {
-        hh: get_u32(image, at + SEVERITY_HH),
-        h: get_u32(image, at + SEVERITY_H),
-        l: get_u32(image, at + SEVERITY_L),
-        ll: get_u32(image, at + SEVERITY_LL),
-        rocpos: get_u32(image, at + SEVERITY_ROCPOS),
-        rocneg: get_u32(image, at + SEVERITY_ROCNEG),
+        hh: u32::get(image, at + SEVERITY_HH),
+        h: u32::get(image, at + SEVERITY_H),
+        l: u32::get(image, at + SEVERITY_L),
+        ll: u32::get(image, at + SEVERITY_LL),
+        rocpos: u32::get(image, at + SEVERITY_ROCPOS),
+        rocneg: u32::get(image, at + SEVERITY_ROCNEG),
     }
 }
 
@@ -38,24 +38,24 @@ fn limits_at(image: &[u8], at: usize) -> Limits
     ensures { result ≡ limits_at image.now at }
 {
     Limits {
-        hh: get_real(image, at + LIMIT_HH),
-        h: get_real(image, at + LIMIT_H),
-        l: get_real(image, at + LIMIT_L),
-        ll: get_real(image, at + LIMIT_LL),
-        deadband: get_real(image, at + DEADBAND),
-        rocpos: get_real(image, at + LIMIT_ROCPOS),
-        rocneg: get_real(image, at + LIMIT_ROCNEG),
+        hh: f32::get(image, at + LIMIT_HH),
+        h: f32::get(image, at + LIMIT_H),
+        l: f32::get(image, at + LIMIT_L),
+        ll: f32::get(image, at + LIMIT_LL),
+        deadband: f32::get(image, at + DEADBAND),
+        rocpos: f32::get(image, at + LIMIT_ROCPOS),
+        rocneg: f32::get(image, at + LIMIT_ROCNEG),
     }
 }
 
-// The checks of a digital record that is there whole.
+// The checks of a digital record that is there whole. No function for both forms is plainer: they read, check and keep other fields.
 fn digital_record(image: &[u8], at: usize) -> Result<(Alarm, usize), Refusal>
     requires { at + size_of Form.Digital ≤ length image.now }
     ensures { result ≡ whole_record Form.Digital image.now at }
 {
     let flags = image[at];
-    let severity = get_u32(image, at + SEVERITY);
-    let duration = get_u32(image, at + DIGITAL_DURATION);
+    let severity = u32::get(image, at + SEVERITY);
+    let duration = u32::get(image, at + DIGITAL_DURATION);
     if DIGITAL_FLAGS <= flags {
         return Err(Reason::UnknownFlag.at(at));
     }
@@ -79,8 +79,8 @@ fn analog_record(image: &[u8], at: usize) -> Result<(Alarm, usize), Refusal>
     let flags = image[at];
     let severities = severities_at(image, at);
     let limits = limits_at(image, at);
-    let period = get_u32(image, at + PERIOD);
-    let duration = get_u32(image, at + ANALOG_DURATION);
+    let period = u32::get(image, at + PERIOD);
+    let duration = u32::get(image, at + ANALOG_DURATION);
     if ANALOG_FLAGS <= flags {
         return Err(Reason::UnknownFlag.at(at));
     }

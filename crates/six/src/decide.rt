@@ -1,22 +1,15 @@
 // The six conditions of an analog alarm, all at once: each word has a bit for each, at every third place.
-ghost use Rattle.std.specs.Prelude.{◌≡◌, cond, ◌+◌, ◌*◌, ◌≤◌, ◌<◌};
+ghost use Rattle.std.specs.Prelude.{◌≡◌, ◌+◌, ◌*◌, ◌≤◌, ◌<◌};
 ghost use Rattle.six.specs.Internal.Cells.{cells_of};
 ghost use Rattle.wire.specs.Internal.Places.{six_bits, six_range};
 
-use wire::places::{HH, HH_UNACKED, SIX};
+use wire::places::{HH, HH_UNACKED, SIX, every};
 
 // Bits of the six conditions: what each keeps, three a condition, and its events, three a condition.
-#[derive(Clone, Copy)]
+#[derive(Clone, Copy, Debug, PartialEq, Eq)]
 pub struct Cells {
     pub kept: u32,
     pub events: u32,
-}
-
-// A bit for each of the six, or none.
-fn every(b: bool) -> u32
-    ensures { result ≡ cond b six_bits 0 }
-{
-    if b { SIX } else { 0 }
 }
 
 // Decides the six conditions from the state before the scan.

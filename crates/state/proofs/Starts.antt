@@ -1,11 +1,13 @@
 -- Starts that are stored where a row begins, and stay otherwise. Assumes nothing.
-use mathlib.Core.Path.{◌≡◌, refl, ap, ◌∙◌}
-use mathlib.Core.Bool.{Bool, false, cond}
-use mathlib.Core.List.{List, [], ◌∷◌}
+use mathlib.Core.Path.{◌≡◌, refl, sym, ap, ◌∙◌}
+use mathlib.Core.Logic.{◌⊎◌, inl, inr}
+use mathlib.Core.Bool.{Bool, true, false, cond}
+use mathlib.Core.List.{List, [], ◌∷◌, ◌++◌}
 use Prim.Native.Nat.{ℕ, ◌+◌, ◌<◌, zero, suc}
-use lib.ListN.{get_or, set, replicate}
+use native.Mathlib.Nat.{add-zero, add-suc, suc-add}
+use lib.ListN.{length, get_or, take, set, replicate, length-take}
 use native.Mathlib.Omega.{arith}
-use lib.Seq.{sets, set-get_or, set_comm, get_or-set_other}
+use lib.Seq.{take-suc, sets, set-get_or, set_comm, get_or-set_other}
 use Rattle.state.specs.Internal.Starts.{keep_start, keep_starts}
 
 -- what the words from an offset on become
@@ -32,30 +34,29 @@ unfolding keep_starts
 none-begins zero time at ws = refl
 none-begins (suc n) time at ws = ap (keep_starts (replicate n false) time (suc at)) (set-get_or ws at 0) ∙ none-begins n time (suc at) ws
 
--- six of them, one after the other
-pub six-kept : (a b c d e f : Bool) (time at : ℕ) (ws : List ℕ) {l m n o p q : List ℕ} → l ≡ keep_start a time at ws → m ≡ keep_start b time (at + 1) l
-    → n ≡ keep_start c time (at + 2) m → o ≡ keep_start d time (at + 3) n → p ≡ keep_start e time (at + 4) o → q ≡ keep_start f time (at + 5) p
-    → q ≡ keep_starts (a ∷ b ∷ c ∷ d ∷ e ∷ f ∷ []) time at ws
+-- some of them, and then others
+keep-append : (xs ys : List Bool) (time at : ℕ) (ws : List ℕ)
+    → keep_starts (xs ++ ys) time at ws ≡ keep_starts ys time (at + length xs) (keep_starts xs time at ws)
 unfolding keep_starts
-six-kept a b c d e f time at ws h₁ h₂ h₃ h₄ h₅ h₆ =
-    let n1 : at + 1 ≡ suc at = omega arith in
-    let n2 : at + 2 ≡ suc (suc at) = omega arith in
-    let n3 : at + 3 ≡ suc (suc (suc at)) = omega arith in
-    let n4 : at + 4 ≡ suc (suc (suc (suc at))) = omega arith in
-    let n5 : at + 5 ≡ suc (suc (suc (suc (suc at)))) = omega arith in
-    (rw n5 at h₆) ∙ ap (keep_start f time (suc (suc (suc (suc (suc at))))))
-    ((rw n4 at h₅) ∙ ap (keep_start e time (suc (suc (suc (suc at)))))
-    ((rw n3 at h₄) ∙ ap (keep_start d time (suc (suc (suc at)))) ((rw n2 at h₃) ∙ ap (keep_start c time (suc (suc at))) ((rw n1 at h₂)
-    ∙ ap (keep_start b time (suc at)) h₁))))
+keep-append [] ys time at ws = ap (λ (k : ℕ). keep_starts ys time k ws) (sym (add-zero at))
+keep-append (x ∷ xs) ys time at ws =
+    let v = keep_start x time at ws in
+    keep-append xs ys time (suc at) v
+    ∙ ap (λ (k : ℕ). keep_starts ys time k (keep_starts xs time (suc at) v)) (suc-add at (length xs) ∙ sym (add-suc at (length xs)))
 
--- two, and then others
-pub two-kept : (a b : Bool) (bs : List Bool) (time at : ℕ) (ws : List ℕ) {l m n : List ℕ} → l ≡ keep_start a time at ws → m ≡ keep_start b time (at + 1) l
-    → n ≡ keep_starts bs time (at + 2) m → n ≡ keep_starts (a ∷ b ∷ bs) time at ws
+-- one more of them
+pub next-start : (bs : List Bool) (i time at : ℕ) (ws : List ℕ) → i < length bs
+    → keep_starts (take (suc i) bs) time at ws ≡ keep_start (get_or bs i false) time (at + i) (keep_starts (take i bs) time at ws)
 unfolding keep_starts
-two-kept a b bs time at ws h₁ h₂ h₃ =
-    let n1 : at + 1 ≡ suc at = omega arith in
-    let n2 : at + 2 ≡ suc (suc at) = omega arith in
-    (rw n2 at h₃) ∙ ap (keep_starts bs time (suc (suc at))) ((rw n1 at h₂) ∙ ap (keep_start b time (suc at)) h₁)
+next-start bs i time at ws h =
+    let long : length (take i bs) ≡ i = simp length-take (omega arith) in
+    ap (λ (l : List Bool). keep_starts l time at ws) (take-suc bs i false h) ∙ keep-append (take i bs) (get_or bs i false ∷ []) time at ws
+    ∙ ap (λ (k : ℕ). keep_start (get_or bs i false) time (at + k) (keep_starts (take i bs) time at ws)) long
+
+-- and it is the time where it begins, or else what it was
+pub start-kept : (b : Bool) (time at : ℕ) {l m : List ℕ} → (b ≡ true) × (m ≡ set l at time) ⊎ (b ≡ false) × (m ≡ l) → m ≡ keep_start b time at l
+start-kept b time at (inl h) = rw h.0 h.1
+start-kept b time at {l} (inr h) = rw h.0 (h.1 ∙ sym (set-get_or l at 0))
 
 -- a store in front of a run of stores may come first
 pub set_first : (xs l : List ℕ) (i j v : ℕ) → j < i → set (sets l i xs) j v ≡ sets (set l j v) i xs

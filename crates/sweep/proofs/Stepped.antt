@@ -1,7 +1,8 @@
 -- The words of an alarm that was stepped. Assumes nothing.
+use mathlib.Core.Bool.{Bool}
 use mathlib.Core.Path.{◌≡◌, ap, ◌∙◌}
 use mathlib.Core.List.{List, [], ◌∷◌}
-use Prim.Native.Nat.{ℕ, ◌+◌, ◌<◌}
+use Prim.Native.Nat.{ℕ, ◌+◌, ◌*◌}
 use native.Mathlib.Omega.{arith}
 use lib.Ieee.{binary32}
 use lib.Ieee.Bits.{of_bits-fits}
@@ -11,12 +12,13 @@ use Rattle.wire.specs.Bits.{bit}
 use Rattle.wire.specs.Number.{number}
 use Rattle.wire.specs.Internal.Places.{word_bits}
 use Rattle.settings.specs.Counts.{form_at}
+use Rattle.settings.specs.Alarm.{ack_required}
 use Rattle.settings.specs.Numbers.{reals}
 use Rattle.settings.specs.declared.types.Alarm.{Alarm}
 use Rattle.settings.specs.declared.types.Form.{Form}
 use Rattle.settings.specs.declared.types.Form.TheVariants.{Digital, Analog}
 use Rattle.settings.specs.declared.types.Reading.{Reading}
-use Rattle.layout.specs.Internal.Words.{alarm_in}
+use Rattle.layout.specs.Internal.Words.{lower_of, alarm_in, kind_in}
 use Rattle.layout.specs.Internal.Block.{alarm_at, counts_in}
 use Rattle.scan_record.specs.Part.{time_of, reading_at, word_at}
 use Rattle.event.specs.Event.{log_bytes}
@@ -24,49 +26,19 @@ use Rattle.state.specs.Internal.Held.{look_digital, real_patterns, look_analog}
 use Rattle.digital.specs.Internal.Digital.{digital_events, digital_step}
 use Rattle.analog.specs.Internal.Analog.{analog_events, analog_step}
 use Rattle.event.specs.Internal.Events.{events_from}
+use Rattle.event.specs.Internal.Bits.{events_of}
 use Rattle.state.specs.Internal.State.{State, starts_of, state_in, state_at}
 use Rattle.sweep.specs.Internal.Step.{step_kind}
 use Rattle.state.proofs.Back.{Small, small-in, put_back}
 use Rattle.digital.proofs.Laws.{small-digital}
 use Rattle.analog.proofs.Laws.{small-analog}
 use Rattle.event.proofs.Logs.{events-bits}
-use Rattle.marks.specs.Internal.Marks.{starts_in}
+use Rattle.marks.specs.Internal.Marks.{starts_in, mark_alarm}
 use Rattle.bank.specs.Lent.{Words}
 use Rattle.sweep.specs.Internal.Sweep.{alarm_events, alarm_marks, state_log, state_marks, place_step, place_states, place_log, place_marks, part_at, step_on}
-
-module _ (settings states rec : List ℕ) (at p time : ℕ) where
-  small : (form : Form) → Small (place_step form settings states rec at p time).state
-  unfolding place_step step_kind alarm_in
-  small Digital =
-      small-digital (state_in states (state_at p)) (reading_at Digital rec at) (word_at Digital rec at) time (small-in states (state_at p))
-      (alarm_in Digital settings (alarm_at p))
-  small Analog =
-      small-analog (state_in states (state_at p)) (reading_at Analog rec at) (word_at Analog rec at) time (small-in states (state_at p))
-      (real_analog (alarm_in Analog settings (alarm_at p))) (of_bits-fits binary32 (number rec at 4))
-
-  module _ (form : Form) (h : p < 24) (n : length states ≡ 580) where
-    -- what is stored is read back
-    back : state_in (place_states form settings states rec at p time) (state_at p) ≡ (place_step form settings states rec at p time).state
-    unfolding place_states
-    back = put_back states (state_at p) (place_step form settings states rec at p time).state (omega arith) (small form)
-
-    module _ {kept : List ℕ} {word : ℕ} (k : kept ≡ place_states form settings states rec at p time)
-        (e : word ≡ (place_step form settings states rec at p time).events) where
-      kept_back : state_in kept (state_at p) ≡ (place_step form settings states rec at p time).state
-      kept_back = ap (λ (ws : List ℕ). state_in ws (state_at p)) k ∙ back
-
-      pub log_back : state_log form settings kept p word time ≡ place_log form settings states rec at p time
-      unfolding state_log place_log
-      log_back = λ i. log_bytes (alarm_events (p + 1) (alarm_in form settings (alarm_at p)) (kept_back i) (e i) time)
-
-      pub marks-back : (marks : List ℕ) → state_marks form settings kept p word time marks ≡ place_marks form settings states rec at p time marks
-      unfolding state_marks place_marks
-      marks-back marks = λ i. alarm_marks p (alarm_in form settings (alarm_at p)) (kept_back i) (e i) time marks
-
--- of the step at a place
-pub small-on : (w : Words) (rec : List ℕ) (p : ℕ) → Small (step_on w rec p).state
-unfolding step_on
-small-on w rec p = small w.settings w.states rec (part_at w rec p) p (time_of rec) (form_at (counts_in w.settings) p)
+use Rattle.sweep.specs.Internal.Part.{log_of, marks_of, part_step, part_states, part_log, part_marks}
+use Rattle.sweep.specs.declared.part.Scan.{Scan}
+use Rattle.sweep.specs.declared.part.Part.{Part}
 
 -- the starts among the words
 pub starts-in : (ws : List ℕ) (at : ℕ) → starts_in ws (at + 5) ≡ starts_of (state_in ws at)
@@ -78,6 +50,65 @@ starts-in ws at =
     let n9 : at + 5 + 4 ≡ at + 9 = omega arith in
     let n10 : at + 5 + 5 ≡ at + 10 = omega arith in
     λ i. get_or ws (at + 5) 0 ∷ get_or ws (n6 i) 0 ∷ get_or ws (n7 i) 0 ∷ get_or ws (n8 i) 0 ∷ get_or ws (n9 i) 0 ∷ get_or ws (n10 i) 0 ∷ []
+
+module _ (settings states rec : List ℕ) (at p time : ℕ) where
+  small : (form : Form) → Small (place_step form settings states rec at p time).state
+  unfolding place_step step_kind alarm_in
+  small Digital =
+      small-digital (state_in states (state_at p)) (reading_at Digital rec at) (word_at Digital rec at) time (small-in states (state_at p))
+      (alarm_in Digital settings (alarm_at p))
+  small Analog =
+      small-analog (state_in states (state_at p)) (reading_at Analog rec at) (word_at Analog rec at) time (small-in states (state_at p))
+      (real_analog (alarm_in Analog settings (alarm_at p))) (of_bits-fits binary32 (number rec at 4))
+
+module _ (scan : Scan) (part : Part) (states : List ℕ) where
+  module _ (n : length states ≡ 580) where
+    -- what is stored is read back
+    back : state_in (part_states scan part states) (state_at part.place) ≡ (part_step scan part states).state
+    unfolding place_states
+    back =
+        put_back states (state_at part.place) (part_step scan part states).state (omega (arith, part.below))
+        (small scan.settings.now states scan.bytes.now part.at part.place scan.time part.form)
+
+    module _ {kept : List ℕ} {word : ℕ} (k : kept ≡ part_states scan part states) (e : word ≡ (part_step scan part states).events) where
+      kept_back : state_in kept (state_at part.place) ≡ (part_step scan part states).state
+      kept_back = ap (λ (ws : List ℕ). state_in ws (state_at part.place)) k ∙ back
+
+      pub log_back : log_of scan part kept word ≡ part_log scan part states
+      unfolding state_log place_log
+      log_back =
+          λ i. log_bytes (alarm_events (part.place + 1) (alarm_in part.form scan.settings.now (alarm_at part.place)) (kept_back i) (e i) scan.time)
+
+      pub marks-back : (marks : List ℕ) → marks_of scan part kept word marks ≡ part_marks scan part states marks
+      unfolding state_marks place_marks
+      marks-back marks =
+          λ i. alarm_marks part.place (alarm_in part.form scan.settings.now (alarm_at part.place)) (kept_back i) (e i) scan.time marks
+
+  -- the same from what the code has at hand
+  module _ (word : ℕ) where
+    pub log-same : {number from kept flags : ℕ} → number ≡ part.place + 1 → from ≡ alarm_at part.place → kept ≡ state_at part.place
+        → flags ≡ lower_of (get_or states kept 0)
+        → log_bytes (events_of number (kind_in part.form scan.settings.now from) (bit flags 1) scan.time word_bits 0 word) ≡ log_of scan part states word
+    unfolding state_log state_in alarm_in
+    log-same a b k f =
+        let g = f ∙ ap (λ (at : ℕ). lower_of (get_or states at 0)) k in
+        λ i. log_bytes (events_of (a i) (kind_in part.form scan.settings.now (b i)) (bit (g i) 1) scan.time word_bits 0 word)
+
+    pub marks-same : {from kept : ℕ} {required : Bool} → from ≡ alarm_at part.place → kept ≡ state_at part.place
+        → required ≡ ack_required (alarm_in part.form scan.settings.now from).kind (alarm_in part.form scan.settings.now from).flags
+        → (marks : List ℕ)
+        → mark_alarm required (starts_in states (kept + 5)) word scan.time (25 * part.place) marks ≡ marks_of scan part states word marks
+    unfolding state_marks
+    marks-same {from} {kept} b k r marks =
+        let q = r
+        ∙ ap (λ (at : ℕ). ack_required (alarm_in part.form scan.settings.now at).kind (alarm_in part.form scan.settings.now at).flags) b in
+        let s = starts-in states kept ∙ ap (λ (at : ℕ). starts_of (state_in states at)) k in
+        λ i. mark_alarm (q i) (s i) word scan.time (25 * part.place) marks
+
+-- of the step at a place
+pub small-on : (w : Words) (rec : List ℕ) (p : ℕ) → Small (step_on w rec p).state
+unfolding step_on
+small-on w rec p = small w.settings w.states rec (part_at w rec p) p (time_of rec) (form_at (counts_in w.settings) p)
 
 -- ---- the events of an alarm's step, as the marked cases have them
 

@@ -2,4 +2,5 @@
 #![tactic(auto)]
 
 pub mod alarms;
+pub mod part;
 pub mod place;

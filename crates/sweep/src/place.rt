@@ -1,48 +1,44 @@
 // What a checked record does to the alarm at a place.
-ghost use Rattle.std.specs.Prelude.{◌≡◌, ◌+◌, ◌≤◌, ◌<◌, length};
+ghost use Rattle.std.specs.Prelude.{◌≡◌, ◌+◌, ◌≤◌, length};
 ghost use Rattle.std.proofs.lemmas.List.Edits.{sets};
-ghost use Rattle.layout.specs.Internal.Sizes.{marks_size, settings_size, states_size};
-ghost use Rattle.settings.specs.Counts.{all_most};
+ghost use Rattle.layout.specs.Internal.Sizes.{marks_size, states_size};
 ghost use Rattle.scan_record.specs.Internal.Size.{entry_size};
-ghost use Rattle.sweep.specs.Internal.Sweep.{state_log, state_marks, place_step, place_states, place_log, place_marks};
+ghost use Rattle.sweep.specs.Internal.Part.{part_step, part_states, part_log, part_marks, log_of, marks_of};
 
+use crate::part::{Part, Scan};
 use analog::step::analog_step;
 use digital::step::digital_step;
+use event::source::Source;
 use event::write::put_events;
 use layout::half::lower;
-use layout::sizes::{ALARM_WORDS, MARK_WORDS, SETTINGS_HEAD, STATE_WORDS, STATES_HEAD};
+use layout::sizes::MARK_WORDS;
 use marks::mark::{mark_alarm, required_in};
 use settings::types::{Form, Reading};
 use state::offsets::STARTS;
-use wire::number::get_u32;
+use wire::number::LittleEndian;
 use wire::places::SUPPRESSED;
-use wire::real::get_real;
 
-// Steps the alarm with its part of the record, which begins at `at`, and answers its event word.
-fn step_form(
-    settings: &[u64],
-    states: &mut [u64],
-    bytes: &[u8],
-    at: usize,
-    form: Form,
-    place: usize,
-    time: u64,
-) -> u32
-    requires { (place < all_most) × (length settings.now ≡ settings_size) × (length states.old ≡ states_size) × (at + entry_size form ≤ length bytes.now) }
-    ensures value { result ≡ (place_step form settings.now states.old bytes.now at place time).events }
-    ensures states_after { states.new ≡ place_states form settings.now states.old bytes.now at place time }
+// Steps the alarm with its part of the record, and answers its event word.
+fn step_form(scan: &Scan<'_>, part: Part, states: &mut [u64]) -> u32
+    requires { (length states.old ≡ states_size) × (part.at + entry_size part.form ≤ length scan.now.bytes.now) }
+    ensures value { result ≡ (part_step scan.now part states.old).events }
+    ensures states_after { states.new ≡ part_states scan.now part states.old }
 {
-    let from = SETTINGS_HEAD + ALARM_WORDS * place;
-    let kept = STATES_HEAD + STATE_WORDS * place;
-    match form {
+    let settings = scan.settings;
+    let bytes = scan.bytes;
+    let time = scan.time;
+    let from = part.settings_at();
+    let kept = part.state_at();
+    let at = part.at;
+    match part.form {
         Form::Digital => {
             let reading = Reading::Digital(bytes[at] == 1);
-            let word = get_u32(bytes, at + 1);
+            let word = u32::get(bytes, at + 1);
             digital_step(settings, from, states, kept, reading, word, time)
         }
         Form::Analog => {
-            let reading = Reading::Level(get_real(bytes, at));
-            let word = get_u32(bytes, at + 4);
+            let reading = Reading::Level(f32::get(bytes, at));
+            let word = u32::get(bytes, at + 4);
             analog_step(settings, from, states, kept, reading, word, time)
         }
     }
@@ -51,82 +47,64 @@ fn step_form(
 // Writes the events of an alarm that was stepped, marks them in its counts and stamps, and answers the offset past them. Most
 // alarms have none.
 fn log_place(
-    settings: &[u64],
+    scan: &Scan<'_>,
+    part: Part,
     states: &[u64],
     marks: &mut [u64],
     out: &mut [u8],
     used: usize,
-    form: Form,
-    place: usize,
     events: u32,
-    time: u64,
 ) -> usize
-    requires sizes { (place < all_most) ×
-        (length settings.now ≡ settings_size) ×
-        (length states.now ≡ states_size) ×
-        (length marks.old ≡ marks_size) }
-    requires room { used + length (state_log form settings.now states.now place events time) ≤ length out.old }
-    ensures value { result ≡ used + length (state_log form settings.now states.now place events time) }
-    ensures marks_after { marks.new ≡ state_marks form settings.now states.now place events time marks.old }
-    ensures out_after { out.new ≡ sets out.old used (state_log form settings.now states.now place events time) }
+    requires sizes { (length states.now ≡ states_size) × (length marks.old ≡ marks_size) }
+    requires room { used + length (log_of scan.now part states.now events) ≤ length out.old }
+    ensures value { result ≡ used + length (log_of scan.now part states.now events) }
+    ensures marks_after { marks.new ≡ marks_of scan.now part states.now events marks.old }
+    ensures out_after { out.new ≡ sets out.old used (log_of scan.now part states.now events) }
 {
     if events == 0 {
         return used;
     }
-    let from = SETTINGS_HEAD + ALARM_WORDS * place;
-    let kept = STATES_HEAD + STATE_WORDS * place;
-    let required = required_in(settings, from, form);
+    let from = part.settings_at();
+    let kept = part.state_at();
+    let required = required_in(scan.settings, from, part.form);
     mark_alarm(
         marks,
-        MARK_WORDS * place,
+        MARK_WORDS * part.place,
         required,
         states,
         kept + STARTS,
         events,
-        time,
+        scan.time,
     );
     let flags = lower(states[kept]);
-    put_events(
-        out,
-        used,
-        (place + 1) as u8,
-        settings,
+    let source = Source {
+        number: part.number(),
+        form: part.form,
+        settings: scan.settings,
         from,
-        form,
-        flags / SUPPRESSED % 2 == 1,
-        time,
-        events,
-    )
+        suppressed: flags / SUPPRESSED % 2 == 1,
+        time: scan.time,
+    };
+    put_events(out, used, &source, events)
 }
 
 // Steps the alarm, writes its events to `out` from `used` on, marks them, and answers the offset past them.
 pub fn step_place(
-    settings: &[u64],
+    scan: &Scan<'_>,
+    part: Part,
     states: &mut [u64],
     marks: &mut [u64],
-    bytes: &[u8],
-    at: usize,
     out: &mut [u8],
     used: usize,
-    form: Form,
-    place: usize,
-    time: u64,
 ) -> usize
-    requires sizes { (place < all_most) ×
-        (length settings.now ≡ settings_size) ×
-        (length states.old ≡ states_size) ×
-        (length marks.old ≡ marks_size) }
-    requires part { (at + entry_size form ≤ length bytes.now) ×
-        (used + length (place_log form settings.now states.old bytes.now at place time) ≤ length out.old) }
-    ensures value { result ≡ used + length (place_log form settings.now states.old bytes.now at place time) }
-    ensures states_after { states.new ≡ place_states form settings.now states.old bytes.now at place time }
-    ensures marks_after { marks.new ≡ place_marks form settings.now states.old bytes.now at place time
-        marks.old }
-    ensures out_after { out.new ≡ sets out.old used
-        (place_log form settings.now states.old bytes.now at place time) }
+    requires sizes { (length states.old ≡ states_size) × (length marks.old ≡ marks_size) }
+    requires part { (part.at + entry_size part.form ≤ length scan.now.bytes.now) ×
+        (used + length (part_log scan.now part states.old) ≤ length out.old) }
+    ensures value { result ≡ used + length (part_log scan.now part states.old) }
+    ensures states_after { states.new ≡ part_states scan.now part states.old }
+    ensures marks_after { marks.new ≡ part_marks scan.now part states.old marks.old }
+    ensures out_after { out.new ≡ sets out.old used (part_log scan.now part states.old) }
 {
-    let events = step_form(settings, states, bytes, at, form, place, time);
-    log_place(
-        settings, states, marks, out, used, form, place, events, time,
-    )
+    let events = step_form(scan, part, states);
+    log_place(scan, part, states, marks, out, used, events)
 }

@@ -1,7 +1,6 @@
-// What the programs read and write: input in blocks and pieces of it, text that waits for output, numbers and bytes as text.
+// What the programs read and write: an input in pieces, lines or records, with the text that answers them.
 #![tactic(auto)]
 
-pub mod input;
-pub mod output;
+pub mod console;
+pub mod failure;
 pub mod pieces;
-pub mod show;

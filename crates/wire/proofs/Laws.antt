@@ -4,24 +4,20 @@ use mathlib.Core.List.{List, [], ◌∷◌, ◌++◌, append_assoc}
 use mathlib.Core.Logic.{◌⊎◌, inl, inr}
 use Prim.Native.Nat.{ℕ, zero, suc, ◌+◌, ◌*◌, ◌/◌, ◌%◌, ◌^◌, ◌≤◌, ◌<◌}
 use native.Mathlib.Nat.{eq-or-lt_of_le, le_of_suc-le-suc, add-zero, add-suc, mul-zero, add_assoc, zero-add, pow-zero, pow-suc, pow-succ', div-one}
-use native.Mathlib.Nat.{div-div-eq-div-mul, mul-pos, one-mul, mul_assoc, mul-add, suc-add, lt_of_not-le, not-le_of_lt}
+use native.Mathlib.Nat.{div-div-eq-div-mul, one-mul, mul_assoc, mul-add, mul_comm, suc-add, lt_of_not-le, not-le_of_lt}
 use native.Mathlib.Numerals.{add-one}
 use native.Mathlib.Omega.{arith}
 use mathlib.Core.Bool.{Bool, true, false, ◌&&◌, false≢true}
 use borrow.Author.Tests.{le-leb, lt-leb, leb-true, leb-false}
 use lib.Dec.{T, leb, ltb, ltb→lt}
-use lib.Arith.{mod-mul}
 use lib.Pow.{are_bytes}
 use lib.Ieee.Fits.{and_i, and_l, and_r}
 use lib.ListN.{length, get_or, take, drop, set, length-append, length-take, length-drop}
-use lib.Seq.{drop-cons, take-add, drop-drop, sets}
+use lib.Seq.{drop-cons, take-add, take-suc, drop-drop, sets, take_all}
+use Rattle.std.specs.Int.{sum_through, byte_worth, bytes_low_first}
 use Rattle.wire.specs.Number.{part, value, number, bytes}
 use Rattle.wire.specs.Internal.Words.{words}
-
-pub length-bytes : (n v : ℕ) → length (bytes n v) ≡ n
-unfolding bytes
-length-bytes zero v = refl
-length-bytes (suc n) v = ap suc (length-bytes n (v / 256))
+pub use Rattle.wire.specs.Internal.Kept.{length-bytes, value-bytes, number-back}
 
 pub part-suc : (s : List ℕ) (at n : ℕ) → at < length s → part s at (suc n) ≡ get_or s at 0 ∷ part s (suc at) n
 part-suc s at n h = rw (drop-cons s at 0)
@@ -37,27 +33,6 @@ unfolding value
 value-append [] ys = simp (pow-zero, one-mul, zero-add)
 value-append (b ∷ bs) ys = simp (value-append bs ys, pow-succ', mul-add, mul_assoc, add_assoc)
 
--- the number in n + m bytes is that in the n, and 256 ^ n times that in the m after them
-pub number-add : (s : List ℕ) (at n m : ℕ) → at + n ≤ length s → number s at (n + m) ≡ number s at n + 256 ^ n * number s (at + n) m
-number-add s at n m h =
-    ap value (part-add s at n m) ∙ value-append (part s at n) (part s (at + n) m)
-    ∙ ap (λ (k : ℕ). number s at n + 256 ^ k * number s (at + n) m) (length_part s at n h)
-
-pub number-two : (s : List ℕ) (at : ℕ) → at + 2 ≤ length s → number s at 2 ≡ get_or s at 0 + 256 * get_or s (at + 1) 0
-unfolding value
-number-two s at h =
-    let a : at < length s = omega arith in
-    let b : suc at < length s = omega arith in
-    ap value (part-suc s at 1 a ∙ ap (λ (l : List ℕ). get_or s at 0 ∷ l) (part-suc s (suc at) 0 b)) ∙ simp (mul-zero, add-zero, add-one)
-
-pub value-bytes : (n v : ℕ) → v < 256 ^ n → value (bytes n v) ≡ v
-unfolding value bytes
-value-bytes zero v h = let p : 256 ^ zero ≡ 1 = pow-zero 256 in omega arith
-value-bytes (suc n) v h =
-    let p : 256 ^ suc n ≡ 256 * 256 ^ n = pow-succ' 256 n in
-    let e : value (bytes n (v / 256)) ≡ v / 256 = value-bytes n (v / 256) (omega arith) in
-    omega arith
-
 pub bytes-value : (xs : List ℕ) → T (are_bytes xs) → bytes (length xs) (value xs) ≡ xs
 unfolding value bytes
 bytes-value [] h = refl
@@ -67,28 +42,10 @@ bytes-value (b ∷ bs) h =
     let d : (b + 256 * value bs) / 256 ≡ value bs = omega arith in
     simp (m, d, bytes-value bs (and_r (ltb b 256) (are_bytes bs) h))
 
-power_pos : (n : ℕ) → 0 < 256 ^ n
-power_pos zero = rw (pow-zero 256) (omega arith)
-power_pos (suc n) = rw (pow-suc 256 n) (mul-pos (power_pos n) (omega arith))
-
--- bytes above the n-th don't matter
-pub bytes-mod : (n v : ℕ) → bytes n (v % 256 ^ n) ≡ bytes n v
-unfolding bytes
-bytes-mod zero v = refl
-bytes-mod (suc n) v =
-    let e : v % (256 ^ n * 256) ≡ (v / 256 % 256 ^ n) * 256 + v % 256 = mod-mul v (power_pos n) (omega arith) in
-    let m : v % (256 ^ n * 256) % 256 ≡ v % 256 = omega arith in
-    let d : v % (256 ^ n * 256) / 256 ≡ v / 256 % 256 ^ n = omega arith in
-    simp (pow-suc, m, d, bytes-mod n (v / 256))
-
 pub bytes-add : (n m v : ℕ) → bytes (n + m) v ≡ bytes n v ++ bytes m (v / 256 ^ n)
 unfolding bytes
 bytes-add zero m v = simp (zero-add, pow-zero, div-one)
 bytes-add (suc n) m v = simp (suc-add, pow-succ', ← div-div-eq-div-mul, bytes-add n m (v / 256))
-
--- a number written in two parts is that number written whole
-pub bytes_halves : (n m v : ℕ) → bytes (n + m) v ≡ bytes n (v % 256 ^ n) ++ bytes m (v / 256 ^ n)
-bytes_halves n m v = bytes-add n m v ∙ ap (λ (l : List ℕ). l ++ bytes m (v / 256 ^ n)) (sym (bytes-mod n v))
 
 take-bytes : (n : ℕ) (xs : List ℕ) → T (are_bytes xs) → T (are_bytes (take n xs))
 take-bytes zero xs h = tt
@@ -110,13 +67,6 @@ bytes-part s at n b h =
 pub sets-append : (l : List ℕ) (i : ℕ) (xs ys : List ℕ) → sets (sets l i xs) (i + length xs) ys ≡ sets l i (xs ++ ys)
 sets-append l i [] ys = simp add-zero
 sets-append l i (x ∷ xs) ys = simp (add-suc, ← suc-add) (sets-append (set l i x) (suc i) xs ys)
-
--- the two halves of a number, written one after the other
-pub sets-halves : (l : List ℕ) (i n m v : ℕ) → sets (sets l i (bytes n (v % 256 ^ n))) (i + n) (bytes m (v / 256 ^ n)) ≡ sets l i (bytes (n + m) v)
-sets-halves l i n m v =
-    ap (λ (k : ℕ). sets (sets l i (bytes n (v % 256 ^ n))) (i + k) (bytes m (v / 256 ^ n))) (sym (length-bytes n (v % 256 ^ n)))
-    ∙ sets-append l i (bytes n (v % 256 ^ n)) (bytes m (v / 256 ^ n))
-    ∙ ap (sets l i) (sym (bytes_halves n m v))
 
 -- two tests of an order agree where each order follows from the other
 pub leb-same : (a b c d : ℕ) → (a ≤ b → c ≤ d) → (c ≤ d → a ≤ b) → leb a b ≡ leb c d
@@ -197,12 +147,6 @@ and-true false b e = absurd (false≢true e)
 pub most-true : (a b m n : ℕ) {r : Bool} → r ≡ leb a m && leb b n → r ≡ true → (a ≤ m) × (b ≤ n)
 most-true a b m n e f = let both = and-true (leb a m) (leb b n) (sym e ∙ f) in (leb-true a m both.0, leb-true b n both.1)
 
--- an element that a list has, whatever stands for one that it lacks
-pub get_or-within : {A : Type 0} (xs : List A) (n : ℕ) (d e : A) → n < length xs → get_or xs n d ≡ get_or xs n e
-get_or-within [] n d e h = absurd (omega arith)
-get_or-within (x ∷ xs) zero d e h = refl
-get_or-within (x ∷ xs) (suc n) d e h = get_or-within xs n d e (omega arith)
-
 -- a place below n + 1 is n or below it
 pub below : (P : ℕ → Type 0) {n p : ℕ} → p < suc n → P n → (p < n → P p) → P p
 below P {n} {p} h last before = go (eq-or-lt_of_le (le_of_suc-le-suc h))
@@ -210,3 +154,39 @@ below P {n} {p} h last before = go (eq-or-lt_of_le (le_of_suc-le-suc h))
     go : (p ≡ n) ⊎ (p < n) → P p
     go (inl e) = rw e last
     go (inr l) = before l
+
+-- ---- what std says of bytes
+
+low_first : (i k v : ℕ) → bytes_low_first i k v ≡ bytes k (v / 256 ^ i)
+unfolding bytes
+low_first i zero v = refl
+low_first zero (suc k) v = simp (pow-zero, div-one, low_first 1 k v)
+low_first (suc i) (suc k) v = ap (λ (l : List ℕ). v / 256 ^ suc i % 256 ∷ l) (low_first (suc (suc i)) k v ∙ ap (bytes k) (sym (next i)))
+  where
+    next : (i : ℕ) → v / 256 ^ suc i / 256 ≡ v / 256 ^ suc (suc i)
+    next i = div-div-eq-div-mul v (256 ^ suc i) 256 ∙ ap (λ (x : ℕ). v / x) (sym (pow-suc 256 (suc i)))
+
+sum-value : (bs : List ℕ) (k : ℕ) → k < length bs → sum_through (λ i. byte_worth i (get_or bs i 0)) k ≡ value (take (suc k) bs)
+unfolding value
+sum-value bs zero h = sym (ap value (take-suc bs 0 0 h) ∙ add-zero (get_or bs 0 0))
+sum-value bs (suc k) h =
+    let before : k < length bs = omega arith in
+    let long : length (take (suc k) bs) ≡ suc k = simp length-take (omega arith) in
+    let b = get_or bs (suc k) 0 in
+    let one : value (b ∷ []) ≡ b = simp (mul-zero, add-zero) in
+    sym (
+    ap value (take-suc bs (suc k) 0 h) ∙ value-append (take (suc k) bs) (b ∷ [])
+    ∙ ap (λ (n : ℕ). value (take (suc k) bs) + 256 ^ length (take (suc k) bs) * n) one
+    ∙ ap (λ (n : ℕ). value (take (suc k) bs) + 256 ^ n * b) long
+    ∙ ap₂ (λ (x y : ℕ). x + y) (sym (sum-value bs k before)) (mul_comm (256 ^ suc k) b)
+    )
+
+-- the number that std makes of the bytes at an offset
+pub number-read : (s : List ℕ) (at k : ℕ) → at + suc k ≤ length s → sum_through (λ i. byte_worth i (get_or (part s at (suc k)) i 0)) k ≡ number s at (suc k)
+number-read s at k h =
+    let long = length_part s at (suc k) h in
+    sum-value (part s at (suc k)) k (omega arith) ∙ ap value (take_all (suc k) (part s at (suc k)) (omega arith))
+
+-- the bytes that std makes of a number
+pub bytes-low : (k v : ℕ) → bytes_low_first 0 k v ≡ bytes k v
+bytes-low k v = low_first 0 k v ∙ simp (pow-zero, div-one)

@@ -1,6 +1,7 @@
 pub mod Laws
 pub mod Reals
 pub mod WordLaws
+pub mod Packing
 pub mod MaskLaws
 pub mod Masks
 mod Examples

@@ -1,3 +1,4 @@
 -- What contracts and proofs use and a reader need not believe.
 pub mod Words
 pub mod Places
+pub mod Kept

@@ -1,28 +1,42 @@
-// Words made of bits, the lowest first.
-ghost use Rattle.std.specs.Prelude.{◌≡◌, cond, [], ◌∷◌, ◌<◌, ◌≤◌};
+// Words made of bits, the lowest first, and the bits of a word.
+ghost use Rattle.std.specs.Prelude.{◌≡◌, ◌-◌, ◌*◌, ◌/◌, ◌%◌, ◌^◌, ◌<◌, ◌≤◌, eqb};
+ghost use Rattle.std.specs.Int.Bits.{bit_and, bit_xor};
 ghost use Rattle.wire.specs.Internal.Words.{word_of, spread};
 
-fn one(b: bool) -> u32
-    ensures { (result ≡ cond b 1 0) × (result ≤ 1) }
+pub fn word_of<const N: usize>(bits: [bool; N]) -> u32
+    requires { N ≤ 32 }
+    ensures { (result ≡ word_of bits.entry) × (result < 2 ^ N) }
 {
-    if b { 1 } else { 0 }
+    let mut word = 0;
+    for (place, bit) in bits.iter().enumerate() {
+        word += u32::from(*bit) << place;
+    }
+    word
 }
 
-pub fn word3(a: bool, b: bool, c: bool) -> u32
-    ensures { (result ≡ word_of (a ∷ b ∷ c ∷ [])) × (result < 8) }
+// The same with a bit at every third place.
+pub fn spread_of<const N: usize>(bits: [bool; N]) -> u32
+    requires { N ≤ 11 }
+    ensures { (result ≡ word_of (spread bits.entry)) × (result < 2 ^ (3 * N - 2)) }
 {
-    one(a) + 2 * one(b) + 4 * one(c)
+    let mut word = 0;
+    for (place, bit) in bits.iter().enumerate() {
+        word += u32::from(*bit) << (3 * place);
+    }
+    word
 }
 
-pub fn word6(a: bool, b: bool, c: bool, d: bool, e: bool, f: bool) -> u32
-    ensures { (result ≡ word_of (a ∷ b ∷ c ∷ d ∷ e ∷ f ∷ [])) × (result < 64) }
+// The bit where a one counts `unit`.
+pub fn is_set(word: u32, unit: u32) -> bool
+    requires { 0 < unit }
+    ensures { result ≡ eqb (word / unit % 2) 1 }
 {
-    word3(a, b, c) + 8 * word3(d, e, f)
+    word / unit % 2 == 1
 }
 
-// Six bits, one at every third place.
-pub fn spread6(a: bool, b: bool, c: bool, d: bool, e: bool, f: bool) -> u32
-    ensures { (result ≡ word_of (spread (a ∷ b ∷ c ∷ d ∷ e ∷ f ∷ []))) × (result < 65536) }
+// The bits that `a` has and `b` lacks.
+pub fn only_in(a: u32, b: u32) -> u32
+    ensures { result ≡ bit_xor a (bit_and a b) }
 {
-    one(a) + 8 * one(b) + 64 * one(c) + 512 * one(d) + 4096 * one(e) + 32768 * one(f)
+    a ^ (a & b)
 }

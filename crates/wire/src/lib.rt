@@ -2,6 +2,7 @@
 #![tactic(auto)]
 
 pub mod bits;
+pub mod choice;
 pub mod number;
 pub mod places;
 pub mod real;

@@ -1,74 +1,116 @@
-// Unsigned little-endian numbers into and out of slices. A number of twice the width is two of the narrower, the lower
-// half first.
-ghost use Rattle.std.specs.Prelude.{◌≡◌, ◌+◌, ◌≤◌, ◌<◌, leb, length, set};
+// Values that stand in a slice of bytes, the lowest byte first.
+ghost use Rattle.std.specs.Prelude.{◌≡◌, ℕ, List, ◌+◌, ◌^◌, ◌≤◌, ◌<◌, leb, length};
 ghost use Rattle.std.proofs.lemmas.List.Edits.{sets};
-ghost use Rattle.wire.specs.Number.{number, bytes};
+ghost use Rattle.wire.specs.Number.{part, number, bytes};
+ghost use Rattle.wire.specs.Internal.Kept.{length-bytes, number-back};
 
-fn wide(b: u8) -> u16
-    ensures { (result ≡ b) × (result < 256) }
-{
-    b as u16
+pub trait LittleEndian: Copy {
+    // How many bytes a value has, and which; what is read at an offset; which values the type has.
+    ghost width: { ℕ };
+
+    ghost bytes_of: { Self → List ℕ };
+
+    ghost read_at: { List ℕ → ℕ → Self };
+
+    ghost IsValue: { Self → Type 0 };
+
+    fn get(s: &[u8], at: usize) -> Self
+        requires { at + width ≤ length s.now }
+        ensures { result ≡ read_at s.now at };
+
+    fn put(self, s: &mut [u8], at: usize)
+        requires { at + width ≤ length s.old }
+        ensures { s.new ≡ sets s.old at (bytes_of self) };
+
+    // So many bytes are written, and what was put is got.
+    ghost fills_width: { (x : Self) → length (bytes_of x) ≡ width };
+
+    ghost gives_back: { (x : Self) (s : List ℕ) (at : ℕ) → IsValue x → at + width ≤ length s → read_at (sets s at (bytes_of x)) at ≡ x };
 }
 
-pub fn get_u16(s: &[u8], at: usize) -> u16
-    requires { at + 2 ≤ length s.now }
-    ensures { result ≡ number s.now at 2 }
+fn bytes_at<const N: usize>(s: &[u8], at: usize) -> [u8; N]
+    requires { at + N ≤ length s.now }
+    ensures { result ≡ part s.now at N }
 {
-    wide(s[at]) + 256 * wide(s[at + 1])
+    s[at..at + N].try_into().unwrap()
 }
 
-pub fn get_u32(s: &[u8], at: usize) -> u32
-    requires { at + 4 ≤ length s.now }
-    ensures { result ≡ number s.now at 4 }
+fn put_bytes<const N: usize>(s: &mut [u8], at: usize, bytes: [u8; N])
+    requires { at + N ≤ length s.old }
+    ensures { s.new ≡ sets s.old at bytes.entry }
 {
-    get_u16(s, at) as u32 + 65536 * (get_u16(s, at + 2) as u32)
+    s[at..at + N].copy_from_slice(&bytes);
 }
 
-pub fn get_u64(s: &[u8], at: usize) -> u64
-    requires { at + 8 ≤ length s.now }
-    ensures { result ≡ number s.now at 8 }
-{
-    get_u32(s, at) as u64 + 4294967296 * (get_u32(s, at + 4) as u64)
+impl LittleEndian for u16 {
+    ghost width = { 2 };
+
+    ghost bytes_of = { bytes 2 };
+
+    ghost read_at = { λ s at. number s at 2 };
+
+    ghost IsValue = { λ x. x < 2 ^ 16 };
+
+    fn get(s: &[u8], at: usize) -> u16 {
+        u16::from_le_bytes(bytes_at(s, at))
+    }
+
+    fn put(self, s: &mut [u8], at: usize) {
+        put_bytes(s, at, self.to_le_bytes());
+    }
+
+    ghost fills_width = { length-bytes 2 };
+
+    ghost gives_back = { number-back 2 };
 }
 
-pub fn put_u8(s: &mut [u8], at: usize, v: u8)
-    requires { at < length s.old }
-    ensures { s.new ≡ set s.old at v }
-{
-    s[at] = v;
+impl LittleEndian for u32 {
+    ghost width = { 4 };
+
+    ghost bytes_of = { bytes 4 };
+
+    ghost read_at = { λ s at. number s at 4 };
+
+    ghost IsValue = { λ x. x < 2 ^ 32 };
+
+    fn get(s: &[u8], at: usize) -> u32 {
+        u32::from_le_bytes(bytes_at(s, at))
+    }
+
+    fn put(self, s: &mut [u8], at: usize) {
+        put_bytes(s, at, self.to_le_bytes());
+    }
+
+    ghost fills_width = { length-bytes 4 };
+
+    ghost gives_back = { number-back 4 };
 }
 
-pub fn put_u16(s: &mut [u8], at: usize, v: u16)
-    requires { at + 2 ≤ length s.old }
-    ensures { s.new ≡ sets s.old at (bytes 2 v) }
-{
-    s[at] = (v % 256) as u8;
-    s[at + 1] = (v / 256) as u8;
-}
+impl LittleEndian for u64 {
+    ghost width = { 8 };
 
-pub fn put_u32(s: &mut [u8], at: usize, v: u32)
-    requires { at + 4 ≤ length s.old }
-    ensures { s.new ≡ sets s.old at (bytes 4 v) }
-{
-    put_u16(s, at, (v % 65536) as u16);
-    put_u16(s, at + 2, (v / 65536) as u16);
-}
+    ghost bytes_of = { bytes 8 };
 
-pub fn put_u64(s: &mut [u8], at: usize, v: u64)
-    requires { at + 8 ≤ length s.old }
-    ensures { s.new ≡ sets s.old at (bytes 8 v) }
-{
-    put_u32(s, at, (v % 4294967296) as u32);
-    put_u32(s, at + 4, (v / 4294967296) as u32);
+    ghost read_at = { λ s at. number s at 8 };
+
+    ghost IsValue = { λ x. x < 2 ^ 64 };
+
+    fn get(s: &[u8], at: usize) -> u64 {
+        u64::from_le_bytes(bytes_at(s, at))
+    }
+
+    fn put(self, s: &mut [u8], at: usize) {
+        put_bytes(s, at, self.to_le_bytes());
+    }
+
+    ghost fills_width = { length-bytes 8 };
+
+    ghost gives_back = { number-back 8 };
 }
 
 // Whether n bytes stand from offset `at` on.
 pub fn has(s: &[u8], at: usize, n: usize) -> bool
     ensures { result ≡ leb (at + n) (length s.now) }
 {
-    if at <= s.len() {
-        n <= s.len() - at
-    } else {
-        false
-    }
+    at <= s.len() && n <= s.len() - at
 }

@@ -1,5 +1,10 @@
 // Where bits stand in the two words of an alarm, its flags and the events of a scan, by what a one counts there. Bits of the whole alarm come
-// first, then three for each condition. Bit 0 of the flags is disabled.
+// first, then three for each condition.
+ghost use Rattle.std.specs.Prelude.{◌≡◌, cond};
+ghost use Rattle.wire.specs.Internal.Places.{six_bits};
+
+pub const DISABLED: u32 = 1;
+
 pub const SUPPRESSED: u32 = 2;
 
 pub const FAULTED: u32 = 4;
@@ -35,5 +40,42 @@ pub const ROCPOS: u32 = 8 * LL;
 
 pub const ROCNEG: u32 = 8 * ROCPOS;
 
+// In an alarm's settings: of a digital one the bit that is watched for, AckRequired and Latched; of an analog one the enabled
+// levels and AckRequired.
+pub const CONDITION: u32 = 1;
+
+pub const ACK_REQUIRED: u32 = 2;
+
+pub const LATCHED: u32 = 4;
+
+pub const HH_ENABLED: u32 = 1;
+
+pub const H_ENABLED: u32 = 2;
+
+pub const L_ENABLED: u32 = 4;
+
+pub const LL_ENABLED: u32 = 8;
+
+pub const ANALOG_ACK_REQUIRED: u32 = 16;
+
 // A bit for each of the six, at every third place.
 pub const SIX: u32 = 0o111111;
+
+// The place of each of the six in such a word.
+pub const AT_HH: u32 = 1;
+
+pub const AT_H: u32 = 8;
+
+pub const AT_L: u32 = 64;
+
+pub const AT_LL: u32 = 512;
+
+pub const AT_ROCPOS: u32 = 4096;
+
+pub const AT_ROCNEG: u32 = 32768;
+
+pub fn every(b: bool) -> u32
+    ensures { result ≡ cond b six_bits 0 }
+{
+    if b { SIX } else { 0 }
+}

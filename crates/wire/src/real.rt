@@ -1,12 +1,12 @@
 // REALs, by bit pattern and by magnitude.
-ghost use Rattle.std.specs.Prelude.{◌≡◌, ◌+◌, ◌≤◌, length};
-ghost use Rattle.std.proofs.lemmas.List.Edits.{sets};
+ghost use Rattle.std.specs.Prelude.{◌≡◌, ℕ};
 ghost use Rattle.std.specs.Float.{binary32};
 ghost use Rattle.std.specs.Float.Ieee.{of_bits, to_bits};
 ghost use Rattle.wire.specs.Real.{bounded, real_at};
 ghost use Rattle.wire.specs.Internal.Words.{real_bytes};
+ghost use Rattle.wire.specs.Internal.Kept.{length-bytes, real-back};
 
-use crate::number::{get_u32, put_u32};
+use crate::number::LittleEndian;
 
 // Bit patterns: the sign, and below it an infinity's; those above that are NaNs'.
 const SIGN: u32 = 0x8000_0000;
@@ -35,16 +35,24 @@ pub fn is_bounded(x: f32) -> bool
     (-999_999_986_991_104.0 <= x) & (x <= 999_999_986_991_104.0)
 }
 
-pub fn get_real(s: &[u8], at: usize) -> f32
-    requires { at + 4 ≤ length s.now }
-    ensures { result ≡ real_at s.now at }
-{
-    from_pattern(get_u32(s, at))
-}
+impl LittleEndian for f32 {
+    ghost width = { 4 };
 
-pub fn put_real(s: &mut [u8], at: usize, x: f32)
-    requires { at + 4 ≤ length s.old }
-    ensures { s.new ≡ sets s.old at (real_bytes x) }
-{
-    put_u32(s, at, to_pattern(x));
+    ghost bytes_of = { real_bytes };
+
+    ghost read_at = { real_at };
+
+    ghost IsValue = { λ x. (n : ℕ) × (x ≡ of_bits binary32 n) };
+
+    fn get(s: &[u8], at: usize) -> f32 {
+        from_pattern(u32::get(s, at))
+    }
+
+    fn put(self, s: &mut [u8], at: usize) {
+        to_pattern(self).put(s, at);
+    }
+
+    ghost fills_width = { λ x. length-bytes 4 (to_bits binary32 x) };
+
+    ghost gives_back = { real-back };
 }

@@ -7,7 +7,7 @@ use native.Mathlib.Omega.{arith}
 use lib.Dec.{eqb}
 use lib.Bits.{bit_and, bit_or, bit_xor, and_shr, or_shr, xor_shr, and_mod, or_mod, xor_mod}
 use Rattle.wire.specs.Bits.{bit}
-use Rattle.wire.proofs.WordLaws.{bit-zero, bit-shift}
+use Rattle.wire.proofs.WordLaws.{bit-shift}
 use Rattle.condition.specs.Command.{rises, acks_all, acks}
 use Rattle.condition.specs.Internal.Outcome.{ack_bits}
 
@@ -67,9 +67,9 @@ acks-own w p k =
     ∙ or-all (acks_all w p) (rises w p (13 + k)) (bit w (19 + k))
 
 pub acks-are : (w p : ℕ) {all : Bool} → all ≡ acks_all w p
-    → (all || eqb (own w p % 2) 1) ∷ (all || bit (own w p) 1) ∷ (all || bit (own w p) 2) ∷ (all || bit (own w p) 3)
+    → (all || bit (own w p) 0) ∷ (all || bit (own w p) 1) ∷ (all || bit (own w p) 2) ∷ (all || bit (own w p) 3)
     ∷ (all || bit (own w p) 4) ∷ (all || bit (own w p) 5) ∷ [] ≡ ack_bits w p
 unfolding ack_bits acks
 acks-are w p e =
     let f : (k : ℕ) → _ = acks-own w p in
-    rw (e, ← bit-zero (own w p), f 0, f 1, f 2, f 3, f 4, f 5) refl
+    rw (e, f 0, f 1, f 2, f 3, f 4, f 5) refl

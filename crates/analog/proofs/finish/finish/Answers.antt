@@ -21,6 +21,7 @@ returns c =
     let ws : List ℕ = a.states.now in
     let first : ℕ = get_or ws a.at 0 in
     let on : Bool = enabled_in a.modes in
+    let enabled = c.is_enabled-enabled.ensures in
     let low = c.lower-flags.ensures in
     let up = c.upper.ensures in
     let acks =
@@ -28,13 +29,14 @@ returns c =
     let six : c.decide-six.result
     ≡ decided first (get_or ws (a.at + 3) 0) (get_or ws (a.at + 4) 0) a.modes a.met a.frees a.duration a.required a.word a.time =
     c.decide-six.ensures.0
+    ∙ ap (λ (e : Bool). cells_of c.lower-flags.result e a.met a.frees c.due_in-ready.result c.ack_word-acks.result a.required) enabled
     ∙ c.due_in-ready.ensures.alike on a.frees
     c.ack_word-acks.result a.required
     ∙ (λ i. cells_of (low i) on a.met a.frees (ready_in (low i) (get_or ws (a.at + 3) 0) (get_or ws (a.at + 4) 0) a.duration a.time) (acks i)
     a.required)
     in
     let begun =
-    c.begin_all.ensures ∙ ap (λ (f : ℕ). keep_starts (all_begin f on a.met) a.time (a.at + 3) ws) low in
+    c.begin_all.ensures ∙ (λ i. keep_starts (all_begin (low i) (enabled i) a.met) a.time (a.at + 3) ws) in
     let kept =
     c.pair.ensures.0 ∙ ap (λ (f : ℕ). pair_of f a.word) (c.flags_after.ensures ∙ ap (flags_after a.modes a.met) six) in
     record {

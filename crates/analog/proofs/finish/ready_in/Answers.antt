@@ -4,5 +4,4 @@ use Rattle.analog.proofs.finish.ready_in.Goals as goal
 
 pub returns : goal.returns
 unfolding ready_bits
-returns c =
-    rw (← c.choose-above.ensures, ← c.choose-below.ensures, ← c.lasted.ensures, ← c.lasted-2.ensures) c.spread6.ensures
+returns c = (cc, c.spread_of.ensures.1)

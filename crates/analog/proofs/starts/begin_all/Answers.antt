@@ -1,17 +1,15 @@
 -- `analog::starts::begin_all` meets its contract. Assumes nothing.
-use mathlib.Core.Path.{◌≡◌, refl, sym, ◌∙◌}
+use mathlib.Core.Path.{◌≡◌, refl, sym, ap, ◌∙◌}
 use mathlib.Core.Bool.{Bool, true, false, not, ◌&&◌, ◌||◌}
-use mathlib.Core.List.{List, [], ◌∷◌}
+use mathlib.Core.List.{List}
 use borrow.Author.Tests.{eqb-true}
-use Prim.Native.Nat.{ℕ, ◌%◌}
+use Prim.Native.Nat.{ℕ}
 use native.Mathlib.Nat.{zero-div}
-use lib.Dec.{eqb}
 use Rattle.wire.specs.Bits.{bit}
 use Rattle.wire.proofs.Laws.{and-true}
-use Rattle.wire.proofs.WordLaws.{bit-zero}
 use Rattle.state.specs.Internal.Starts.{keep_starts}
 use Rattle.analog.specs.Internal.Packed.{row_begins, all_begin}
-use Rattle.state.proofs.Starts.{none-begins, two-kept}
+use Rattle.state.proofs.Starts.{none-begins}
 use Rattle.analog.proofs.starts.begin_all.Goals as goal
 
 not-true : (b : Bool) → not b ≡ true → b ≡ false
@@ -25,7 +23,7 @@ none k z e = sym e ∙ rw (z, zero-div)
 quiet : (flags met : ℕ) (enabled : Bool) (time at : ℕ) (ws : List ℕ) {w : ℕ} → w ≡ 0
     → (bit w 0 ≡ row_begins flags enabled met 0) × (bit w 3 ≡ row_begins flags enabled met 1) × (bit w 6 ≡ row_begins flags enabled met 2)
     × (bit w 9 ≡ row_begins flags enabled met 3) × (bit w 12 ≡ row_begins flags enabled met 4) × (bit w 15 ≡ row_begins flags enabled met 5)
-    → not (enabled && (eqb (met % 2) 1 || bit met 3) && not (bit flags 4)) ≡ true → not (enabled && (bit met 6 || bit met 9) && not (bit flags 5)) ≡ true
+    → not (enabled && (bit met 0 || bit met 3) && not (bit flags 4)) ≡ true → not (enabled && (bit met 6 || bit met 9) && not (bit flags 5)) ≡ true
     → ws ≡ keep_starts (all_begin flags enabled met) time at ws
 quiet flags met enabled time at ws {w} z bits high low =
     rw (
@@ -35,27 +33,20 @@ quiet flags met enabled time at ws {w} z bits high low =
       none {w = w} 9 {b = row_begins flags enabled met 3} z bits.3,
       none {w = w} 12 {b = row_begins flags enabled met 4} z bits.4,
       none {w = w} 15 {b = row_begins flags enabled met 5} z bits.5,
-      bit-zero met,
-      not-true (enabled && (eqb (met % 2) 1 || bit met 3) && not (bit flags 4)) high,
+      not-true (enabled && (bit met 0 || bit met 3) && not (bit flags 4)) high,
       not-true (enabled && (bit met 6 || bit met 9) && not (bit flags 5)) low,
     )
     (sym (none-begins 8 time at ws))
 
 pub returns-then-begins-high : goal.returns-then-begins-high
-returns-then-begins-high c = let a = c.args in
+returns-then-begins-high c =
+    let a = c.args in
+    let high : a.enabled && c.is_high.result && not c.is_set.result ≡ a.enabled && (bit a.met 0 || bit a.met 3) && not (bit a.flags 4) = cc in
+    let low : a.enabled && c.is_low.result && not c.is_set-2.result ≡ a.enabled && (bit a.met 6 || bit a.met 9) && not (bit a.flags 5) = cc in
     let rests = and-true _ _ c.if-begins-high.true in
     let still = and-true _ _ rests.0 in
-    let z : c.rows_begin-begins.result ≡ 0 = eqb-true _ _ still.0 in
-    let bits = c.rows_begin-begins.ensures in
-    quiet a.flags a.met a.enabled a.time a.at a.states.now z bits still.1 rests.1
+    quiet a.flags a.met a.enabled a.time a.at a.states.now (eqb-true _ _ still.0) c.rows_begin-begins.ensures (ap not (sym high) ∙ still.1)
+    (ap not (sym low) ∙ rests.1)
 
 pub returns : goal.returns
-returns c = let a = c.args in
-    let w = c.rows_begin-begins.result in
-    let bits = c.rows_begin-begins.ensures in
-    rw (← bits.0, ← bits.1, ← bits.2, ← bits.3, ← bits.4, ← bits.5, bit-zero a.met)
-    (two-kept (a.enabled && (eqb (a.met % 2) 1 || bit a.met 3) && not (bit a.flags 4))
-    (a.enabled && (bit a.met 6 || bit a.met 9) && not (bit a.flags 5))
-    (bit w 0 ∷ bit w 3 ∷ bit w 6 ∷ bit w 9 ∷ bit w 12 ∷ bit w 15 ∷ []) a.time a.at a.states.now
-    c.begin.ensures
-    c.begin-2.ensures c.begin_rows.ensures)
+returns c = cc

@@ -3,10 +3,8 @@ use Rattle.condition.specs.Command.{acks}
 use Rattle.condition.specs.Internal.Outcome.{ack_bits}
 use Rattle.wire.specs.Internal.Words.{word_of, spread}
 use native.Mathlib.Omega.{arith}
-use mathlib.Core.Path.{sym, ap, ◌∙◌}
+use mathlib.Core.Path.{sym, ap}
 use Prim.Native.Nat.{ℕ}
-use mathlib.Core.Bool.{Bool}
-use mathlib.Core.List.{List}
 use Rattle.condition.proofs.command.Own.{acks-are}
 use Rattle.condition.proofs.command.ack_word.Goals as goal
 
@@ -15,8 +13,4 @@ unfolding word_of spread ack_bits acks
 returns-then-word-eq0 c = (sym (ap (λ (w : ℕ). word_of (spread (ack_bits w c.args.previous))) c.if-word-eq0.true), omega arith)
 
 pub returns : goal.returns
-returns c =
-    let a = c.args in (
-      c.spread6.ensures.0 ∙ ap (λ (l : List Bool). word_of (spread l)) (acks-are a.word a.previous c.acks_all-all.ensures),
-      c.spread6.ensures.1,
-    )
+returns c = (cc (acks-are c.args.word c.args.previous c.acks_all-all.ensures), c.spread_of.ensures.1)

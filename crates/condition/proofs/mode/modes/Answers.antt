@@ -2,9 +2,8 @@
 use Rattle.condition.specs.Internal.Mode.{mode_bits}
 use Rattle.wire.specs.Bits.{bit}
 use Rattle.wire.specs.Internal.Words.{word_of}
-use Rattle.wire.proofs.WordLaws.{word-join, word_two}
+use Rattle.wire.proofs.WordLaws.{word_two}
 use native.Mathlib.Omega.{arith}
-use native.Mathlib.Nat.{div-one}
 use mathlib.Core.List.{[], ◌∷◌}
 use mathlib.Core.Path.{◌≡◌, refl, ◌∙◌}
 use mathlib.Core.Bool.{Bool, true, false}
@@ -26,4 +25,4 @@ returns-then-word-eq0 c =
 
 pub returns : goal.returns
 unfolding mode_bits
-returns c = (word-join (_ ∷ _ ∷ _ ∷ _ ∷ _ ∷ _ ∷ []) _ c.word6-low.ensures.0 c.word6-high.ensures.0 ∙ rw div-one, omega arith)
+returns c = (cc, c.word_of.ensures.1)

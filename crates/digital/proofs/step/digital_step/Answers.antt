@@ -3,12 +3,12 @@ use borrow.Author.Tests.{eqb-true}
 use mathlib.Core.Path.{◌≡◌, refl, sym, ap, ◌∙◌}
 use mathlib.Core.Bool.{Bool, not, ◌&&◌, ◌||◌, cond}
 use mathlib.Core.List.{List}
-use Prim.Native.Nat.{ℕ, ◌-◌, ◌%◌}
-use lib.Dec.{eqb, leb}
+use Prim.Native.Nat.{ℕ, ◌-◌}
+use lib.Dec.{leb}
 use Rattle.wire.specs.Bits.{bit}
 use Rattle.wire.specs.Internal.Words.{word_of}
 use Rattle.wire.proofs.Laws.{and-true}
-use Rattle.wire.proofs.WordLaws.{bit-zero, bit-shift, word_low}
+use Rattle.wire.proofs.WordLaws.{bit-shift, word_low}
 use Rattle.wire.specs.Internal.Places.{first_condition, condition_bit, from_condition}
 use Rattle.settings.specs.declared.types.Alarm.{Alarm}
 use Rattle.settings.specs.declared.types.Form.TheVariants.{Digital as DigitalForm}
@@ -30,7 +30,7 @@ unfolding alarm_in
 returns-then-word-rests c =
     let g = c.args in
     let a : Alarm = alarm_in DigitalForm g.settings.now g.from in
-    let watched = ap (λ (v : ℕ). eqb (v % 2) 1) c.flags_in-set.ensures ∙ sym (bit-zero a.flags) in
+    let watched = c.is_set.ensures ∙ ap (λ (v : ℕ). bit v 0) (c.from-set.ensures ∙ c.flags_in.ensures) in
     let met' = c.is_bit-met.ensures ∙ ap (λ (b : Bool). is_bit b g.reading) watched in
     let rests = and-true _ _ c.if-word-rests.true in
     let both = digital-rest-done a g.states.now g.at g.reading g.word g.time met' (eqb-true _ _ rests.0)
@@ -47,19 +47,22 @@ returns c =
     let x : Reading = g.reading in
     let low = c.lower-flags.ensures in
     let up = c.upper-previous.ensures in
-    let set = c.flags_in-set.ensures in
+    let set = c.from-set.ensures ∙ c.flags_in.ensures in
     let m : c.modes-m.result
     ≡ word_of (mode_bits (bit s.flags 0) (bit s.flags 1) g.word s.previous) =
     c.modes-m.ensures.0
     ∙ (λ i. word_of (mode_bits (bit (low i) 0) (bit (low i) 1) g.word (up i)))
     in
-    let disabled = word_low _ _ m in
-    let watched = ap (λ (v : ℕ). eqb (v % 2) 1) set ∙ sym (bit-zero a.flags) in
+    let enabled = c.is_enabled-enabled.ensures ∙ ap not (word_low _ _ m) in
+    let watched = c.is_set.ensures ∙ ap (λ (v : ℕ). bit v 0) set in
+    let latched = c.is_set-2.ensures ∙ ap (λ (v : ℕ). bit v 2) set in
+    let required = c.is_set-3.ensures ∙ ap (λ (v : ℕ). bit v 1) set in
+    let on = c.is_set-on.ensures ∙ ap (λ (f : ℕ). bit f (condition_bit 0 2)) low in
     let met' = c.is_bit-met.ensures ∙ ap (λ (b : Bool). is_bit b x) watched in
     let reset = c.resets_one.ensures ∙ ap (resets g.word) up in
     let start =
     c.choose.ensures
-    ∙ ap (λ (f : ℕ). cond (bit f (condition_bit 0 2)) s.hh g.time) low in
+    ∙ ap (λ (b : Bool). cond b s.hh g.time) on in
     let ready =
     c.lasted-ready.ensures
     ∙ (λ i. leb (c.duration_in.ensures i) (g.time - start i)) in
@@ -71,13 +74,12 @@ returns c =
     c.condition-c.ensures.0
     ∙ (λ i.
     word_of (outcome_bits (record {
-      enabled = not (disabled i);
+      enabled = enabled i;
       met = met' i;
-      frees = not (bit (set i) 2) || reset i;
+      frees = not (latched i) || reset i;
       ready = ready i;
       ack = ack i;
-      required =
-          bit (set i) 1;
+      required = required i;
     }) (alarm i) (unacked i)))
     in
     let flags = digital-flags a s x g.word g.time m outcome in
@@ -86,5 +88,5 @@ returns c =
     record {
       value = events;
       states_after = c.keep.ensures ∙ digital-done ws g.at (digital_after a x g.word g.time (look_digital s)) refl
-          (λ i. cond ((not (disabled i) && met' i) && not (bit (low i) (condition_bit 0 2))) g.time s.hh) first;
+          (λ i. cond ((enabled i && met' i) && not (on i)) g.time s.hh) first;
     }

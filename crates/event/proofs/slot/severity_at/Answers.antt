@@ -1,8 +1,16 @@
--- `event::slot::severity_at` meets its contract: by the form. Assumes nothing.
+-- `event::slot::severity_at` meets its contract: by the form; of an analog alarm the lower half of a word at an even place, the upper at an odd one.
+-- Assumes nothing.
+use borrow.Author.Rules.{rules}
+use mathlib.Core.Path.{◌∙◌}
+use Rattle.event.proofs.Slots.{lower-stored, upper-stored}
 use Rattle.event.proofs.slot.severity_at.Goals as goal
 
-pub returns-in-Digital : goal.returns-in-Digital
-returns-in-Digital c = rw c.in-Digital.is c.severity_in.ensures
+pub returns-then-place-eq0 : goal.returns-then-place-eq0
+returns-then-place-eq0 c =
+    let s = c.args.source.now in
+    rw c.in-Analog.is (c.lower.ensures ∙ lower-stored s.settings.now s.from c.args.place (search rules) c.if-place-eq0.true)
 
-pub returns-in-Analog : goal.returns-in-Analog
-returns-in-Analog c = rw c.in-Analog.is c.severity_of.ensures
+pub returns-else-place-eq0 : goal.returns-else-place-eq0
+returns-else-place-eq0 c =
+    let s = c.args.source.now in
+    rw c.in-Analog.is (c.upper.ensures ∙ upper-stored s.settings.now s.from c.args.place (search rules) c.if-place-eq0.false)

@@ -13,31 +13,34 @@ use Rattle.event.proofs.write.put_condition.Goals as goal
 pub returns-then-word-eq0 : goal.returns-then-word-eq0
 returns-then-word-eq0 c =
     let a = c.args in
-    let e = no-log a.number (kind_in a.form a.settings.now a.from) a.suppressed a.time (condition_bit a.place 0) a.word
+    let s = a.source.now in
+    let e = no-log s.number (kind_in s.form s.settings.now s.from) s.suppressed s.time (condition_bit a.place 0) a.word
     c.if-word-eq0.true in
     record {
       value = rw e (sym (add-zero _));
       out_after = rw e;
     }
 
-pub put_three-requires : goal.put_three-requires
-put_three-requires c =
+pub put_bits-requires : goal.put_bits-requires
+put_bits-requires c =
     let a = c.args in
+    let s = a.source.now in
     let h = c.head-first.ensures in
     let e =
-    condition-records a.number a.form a.settings.now a.from a.suppressed a.time a.place a.word (search rules) h.value h.upper_bound.1
-    h.upper_bound.2 c.condition_at.ensures c.acting_severity-severity.ensures
+    condition-records s.number s.form s.settings.now s.from s.suppressed s.time a.place a.word (search rules) h.value s.small
+    h.upper_bound.1 c.condition_at-condition.ensures c.acting_severity-severity.ensures
     c.severity_at.ensures in
     omega (arith, ap length e)
 
 pub returns : goal.returns
 returns c =
     let a = c.args in
+    let s = a.source.now in
     let h = c.head-first.ensures in
-    let p = c.put_three.ensures in
+    let p = c.put_bits.ensures in
     let e =
-    condition-records a.number a.form a.settings.now a.from a.suppressed a.time a.place a.word (search rules) h.value h.upper_bound.1
-    h.upper_bound.2 c.condition_at.ensures
+    condition-records s.number s.form s.settings.now s.from s.suppressed s.time a.place a.word (search rules) h.value s.small
+    h.upper_bound.1 c.condition_at-condition.ensures
     c.acting_severity-severity.ensures
     c.severity_at.ensures in
     record {

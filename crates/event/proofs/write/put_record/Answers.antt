@@ -5,5 +5,5 @@ use Rattle.event.proofs.write.put_record.Goals as goal
 pub returns : goal.returns
 returns c =
     let a = c.args in
-    record-stores a.time a.out.now a.at a.head c.put_u64.ensures
-    c.put_u64-2.ensures
+    record-stores a.time a.out.now a.at a.head c.put.ensures
+    c.put-2.ensures

@@ -1,20 +1,15 @@
--- `host_bytes::rows::put_flags` meets its contract: four bytes, one after the other. Assumes nothing.
+-- `host_bytes::rows::put_flags` meets its contract: four bytes, copied to their place. Assumes nothing.
+use mathlib.Core.List.{[], ◌∷◌}
 use mathlib.Core.Path.{◌∙◌}
-use native.Mathlib.Numerals.{add-one, add-two, add-three}
+use native.Mathlib.Omega.{arith}
+use Rattle.layout.proofs.Stores.{copied-over}
+use Rattle.host_bytes.proofs.Stores.{flag-of}
 use Rattle.host_bytes.proofs.rows.put_flags.Goals as goal
 
 pub returns : goal.returns
 returns c =
-    c.put_u8-4.ensures
-    ∙ rw (
-      c.one-4.ensures,
-      c.put_u8-3.ensures,
-      c.one-3.ensures,
-      c.put_u8-2.ensures,
-      c.one-2.ensures,
-      c.put_u8.ensures,
-      c.one.ensures,
-      add-one,
-      add-two,
-      add-three,
-    )
+    let a = c.args in
+    copied-over a.out.now a.at _ _
+    (c.copy_from_slice.ensures.after
+    ∙ (λ i. flag-of a.a c.from.ensures i ∷ flag-of a.b c.from-2.ensures i ∷ flag-of a.c c.from-3.ensures i ∷ flag-of a.d c.from-4.ensures i ∷ []))
+    (omega arith) (omega arith)

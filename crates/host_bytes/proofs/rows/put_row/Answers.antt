@@ -6,11 +6,11 @@ use Rattle.host_bytes.proofs.rows.put_row.Goals as goal
 pub returns : goal.returns
 returns c =
     let a = c.args in
-    c.put_u64-3.ensures
+    c.put-4.ensures
     ∙ rw (
-      c.put_u64-2.ensures,
-      c.put_u64.ensures,
-      c.put_u32.ensures,
+      c.put-3.ensures,
+      c.put-2.ensures,
+      c.put.ensures,
       c.put_flags.ensures,
     )
     (row-stores a.row a.out.now a.at)

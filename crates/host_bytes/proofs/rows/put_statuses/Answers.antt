@@ -1,9 +1,7 @@
--- `host_bytes::rows::put_statuses` meets its contract: the invariant: the conditions so far stand behind the start. The measure is the
--- conditions left. Assumes nothing.
+-- `host_bytes::rows::put_statuses` meets its contract: the invariant: the conditions so far stand behind the start. Assumes nothing.
 use borrow.Author.Rules.{rules}
 use mathlib.Core.Path.{◌≡◌, refl, sym, ap, ◌∙◌}
 use Prim.Native.Nat.{ℕ, ◌+◌, ◌*◌}
-use native.Mathlib.Omega.{arith}
 use lib.Seq.{sets}
 use Rattle.host_bytes.specs.Bytes.{row_bytes, joined, condition_bytes}
 use Rattle.host_bytes.specs.declared.rows.Row.{Row}
@@ -14,23 +12,23 @@ use Rattle.host_bytes.proofs.rows.put_statuses.Goals as goal
 pub loop-i-init : goal.loop-i-init
 loop-i-init c =
     let a = c.args in
-    (search rules, ap (sets a.out.now a.start) (sym (joined-none (λ p. condition_bytes a.conditions p))), refl)
+    record { same_length = refl; written = ap (sets a.out.now a.start) (sym (joined-none (λ p. condition_bytes a.conditions p))) }
 
 pub loop-i-preserved : goal.loop-i-preserved
 loop-i-preserved c =
     let a = c.args in
     let l = c.loop-i in
-    let p = c.put_row in (
-      search rules,
-      p.ensures
+    let p = c.put_row in
+    record {
+      same_length = p.auto.out ∙ l.invariant.same_length;
+      written = p.ensures
           ∙ ap (λ (r : Row). sets l.out (a.start + 32 * l.i) (row_bytes r)) c.status_row.ensures
-          ∙ rw l.invariant.1 (joined-next (λ p. condition_bytes a.conditions p) 32 (λ i. length-row _) a.out.now a.start l.i),
-      p.auto.out ∙ l.invariant.2,
-    )
+          ∙ rw l.invariant.written (joined-next (λ p. condition_bytes a.conditions p) 32 (λ i. length-row _) a.out.now a.start l.i);
+    }
 
 pub returns : goal.returns
 returns c =
     let a = c.args in
     let l = c.loop-i in
-    let n : l.i ≡ 6 = omega arith in
-    l.invariant.1 ∙ ap (λ (k : ℕ). sets a.out.now a.start (joined (λ p. condition_bytes a.conditions p) k)) n
+    let n : l.i ≡ 6 = search rules in
+    l.invariant.written ∙ ap (λ (k : ℕ). sets a.out.now a.start (joined (λ p. condition_bytes a.conditions p) k)) n

@@ -1,17 +1,20 @@
--- `image::write::put_analog` meets its contract: a byte and fifteen words, one after the other. Assumes nothing.
-use Rattle.image.specs.Internal.Write.{analog_bytes, severity_words, limit_words}
-use Rattle.wire.proofs.Laws.{byte-then, word-then, words-then, words-done}
-use native.Mathlib.Nat.{add_assoc}
-use mathlib.Core.Path.{sym}
+-- `image::write::put_analog` meets its contract: a byte and fifteen numbers, of which seven are patterns of REALs. Assumes nothing.
+use mathlib.Core.Path.{refl, ◌∙◌}
+use Rattle.image.specs.Internal.Write.{analog_bytes}
+use Rattle.wire.proofs.Laws.{byte-then}
 use Rattle.image.proofs.write.put_analog.Goals as goal
 
 pub returns : goal.returns
 unfolding analog_bytes
 returns c =
-    let a = c.args in
-    byte-then a.out.now a.at a.flags _ c.put_u8.ensures
-    (words-then _ _ (severity_words a.s) _ c.put_severities.ensures (sym (add_assoc _ 1 24))
-    (words-then _ _ (limit_words a.g) _ c.put_limits.ensures (sym (add_assoc _ 25 28))
-    (word-then _ _ _ _ c.put_u32.ensures (sym (add_assoc _ 53 4))
-    (word-then _ _ _ _ c.put_u32-2.ensures (sym (add_assoc _ 57 4))
-    (words-done _ _)))))
+    byte-then c.args.out.now c.args.at c.args.flags _ refl
+    (c.put_words.ensures
+    ∙ rw (
+      c.to_pattern.ensures,
+      c.to_pattern-2.ensures,
+      c.to_pattern-3.ensures,
+      c.to_pattern-4.ensures,
+      c.to_pattern-5.ensures,
+      c.to_pattern-6.ensures,
+      c.to_pattern-7.ensures,
+    ))

@@ -1,15 +1,9 @@
--- `image::write::put_digital` meets its contract: a byte and two words, one after the other. Assumes nothing.
+-- `image::write::put_digital` meets its contract: a byte and two numbers. Assumes nothing.
+use mathlib.Core.Path.{refl}
 use Rattle.image.specs.Internal.Write.{digital_bytes}
-use Rattle.wire.proofs.Laws.{byte-then, word-then, words-done}
-use native.Mathlib.Nat.{add_assoc}
-use mathlib.Core.Path.{sym}
+use Rattle.wire.proofs.Laws.{byte-then}
 use Rattle.image.proofs.write.put_digital.Goals as goal
 
 pub returns : goal.returns
 unfolding digital_bytes
-returns c =
-    let a = c.args in
-    byte-then a.out.now a.at a.flags _ c.put_u8.ensures
-    (word-then _ _ _ _ c.put_u32.ensures (sym (add_assoc _ 1 4))
-    (word-then _ _ _ _ c.put_u32-2.ensures (sym (add_assoc _ 5 4))
-    (words-done _ _)))
+returns c = byte-then c.args.out.now c.args.at c.args.flags _ refl c.put_words.ensures

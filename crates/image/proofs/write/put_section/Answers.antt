@@ -3,12 +3,13 @@ use Rattle.image.proofs.Images.{section-length}
 use Rattle.image.specs.Internal.Write.{section_bytes, read_as}
 use native.Mathlib.Numerals.{add-one}
 use native.Mathlib.Omega.{arith}
+use lib.ListN.{length-set}
 use mathlib.Core.Path.{◌∙◌}
 use Rattle.image.proofs.write.put_section.Goals as goal
 
-pub put_u8-requires : goal.put_u8-requires
+pub bounds-out-at : goal.bounds-out-at
 unfolding section_bytes
-put_u8-requires c =
+bounds-out-at c =
     let a = c.args in
     omega (arith, section-length a.form a.first a.count (read_as a.form a.words.now))
 
@@ -18,7 +19,7 @@ put_records-requires c =
     let a = c.args in
     record {
       end_le_all_most = omega (arith, section-length a.form a.first a.count (read_as a.form a.words.now));
-      room = omega (arith, section-length a.form a.first a.count (read_as a.form a.words.now));
+      room = omega (arith, length-set a.out.now a.at a.count, section-length a.form a.first a.count (read_as a.form a.words.now));
     }
 
 pub returns : goal.returns
@@ -26,8 +27,7 @@ unfolding section_bytes
 returns c =
     let a = c.args in
     let p = c.put_records in
-    let e = c.put_u8.ensures in
     record {
       value = omega (arith, section-length a.form a.first a.count (read_as a.form a.words.now));
-      out_after = p.ensures.out_after ∙ rw (e, add-one);
+      out_after = p.ensures.out_after ∙ rw add-one;
     }

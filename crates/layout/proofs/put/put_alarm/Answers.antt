@@ -1,19 +1,15 @@
--- `layout::put::put_alarm` meets its contract: by the kind. Assumes nothing.
-use Rattle.layout.specs.Internal.Words.{alarm_words}
+-- `layout::put::put_alarm` meets its contract: the alarm's words are copied to their place. Assumes nothing.
+use mathlib.Core.Path.{◌∙◌}
+use native.Mathlib.Omega.{arith}
+use Rattle.layout.proofs.Stores.{alarm-copied, alarm-read}
 use Rattle.layout.proofs.put.put_alarm.Goals as goal
 
-pub returns-in-Digital : goal.returns-in-Digital
-unfolding alarm_words
-returns-in-Digital c =
+pub returns : goal.returns
+returns c =
+    let a = c.args in
+    let said = c.alarm_words.ensures in
+    let copied = alarm-copied a.alarm a.words.now a.at c.requires (c.copy_from_slice.ensures.after ∙ said.words_are) (omega arith) in
     record {
-      words_after = rw c.in-Digital.is c.put_digital.ensures.words_after;
-      read_back = rw c.in-Digital.is c.put_digital.ensures.read_back;
-    }
-
-pub returns-in-Analog : goal.returns-in-Analog
-unfolding alarm_words
-returns-in-Analog c =
-    record {
-      words_after = rw c.in-Analog.is c.put_analog.ensures.words_after;
-      read_back = rw c.in-Analog.is c.put_analog.ensures.read_back;
+      words_after = copied;
+      read_back = alarm-read a.alarm a.words.now a.at c.requires said.words_are copied said.read_back;
     }

@@ -2,19 +2,8 @@
 use mathlib.Core.Path.{◌≡◌}
 use Prim.Native.Nat.{min}
 use native.Mathlib.Omega.{arith}
-use lib.Dec.{le→leb}
-use lib.Ieee.{in_float, of_bits, of_int}
+use lib.Ieee.{of_bits, of_int}
 use Rattle.level.proofs.rate.period_real.Goals as goal
-
-pub int_to_float-result : goal.int_to_float-result
-unfolding in_float
-int_to_float-result c = le→leb _ _ c.if-period-le16777216.true
-
-pub returns-then-period-le16777216 : goal.returns-then-period-le16777216
-returns-then-period-le16777216 c =
-    let p = c.args.period in
-    let e : min p 16777216 ≡ p = omega arith in
-    rw e
 
 pub returns-else-period-le16777216 : goal.returns-else-period-le16777216
 unfolding of_bits of_int

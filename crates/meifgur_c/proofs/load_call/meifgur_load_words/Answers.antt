@@ -22,7 +22,7 @@ pub returns : goal.returns
 returns c =
     let a = c.args in
     let e = c.load-reply.ensures in
-    let n = c.counts_of-counts.ensures ∙ ap counts_in e.settings_after in
+    let n = c.counts_in-counts.ensures ∙ ap counts_in e.settings_after in
     let long = le-ltb (length a.answer.now) 4 c.if-answer-lt-LOAD_ANSWER.false in
     record {
       value = rw long (c.number_in.ensures ∙ ap number_in e.value);

@@ -5,4 +5,15 @@ use Rattle.report.proofs.whole.digital_whole.Goals as goal
 
 pub returns : goal.returns
 unfolding state_in
-returns c = simp (c.elapsed_run.ensures, c.is_invalid.ensures, c.lower-flags.ensures, div-one, add-zero)
+returns c =
+    simp (
+      c.elapsed_run.ensures,
+      c.is_invalid.ensures,
+      c.is_set.ensures,
+      c.is_set-2.ensures,
+      c.is_set-3.ensures,
+      c.is_set-4.ensures,
+      c.lower-flags.ensures,
+      div-one,
+      add-zero,
+    )

@@ -33,8 +33,9 @@ returns c =
       states_after = rw (
         c.choose.ensures,
         c.pair.ensures.0,
-        c.value_in-value.ensures,
+        c.choose-value.ensures,
         c.lower.ensures,
+        c.to_pattern.ensures,
         stays,
         rate,
         add-one,

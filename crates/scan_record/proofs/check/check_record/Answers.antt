@@ -10,16 +10,16 @@ pub returns-then-not-is_whole : goal.returns-then-not-is_whole
 unfolding check_record
 returns-then-not-is_whole c = rw c.at.ensures (simp (← c.is_whole.ensures, c.if-not-is_whole.true))
 
-pub get_u64-requires : goal.get_u64-requires
-get_u64-requires c =
+pub get-requires : goal.get-requires
+get-requires c =
     let w = c.is_whole in
     omega (arith, (whole_says c.args.counts _ (sym w.ensures ∙ c.if-not-is_whole.false)).size)
 
-pub returns-then-get_u64-last : goal.returns-then-get_u64-last
+pub returns-then-get-last : goal.returns-then-get-last
 unfolding check_record
-returns-then-get_u64-last c =
+returns-then-get-last c =
     let w = c.is_whole in
-    rw c.at-then-get_u64-last.ensures (simp (← w.ensures, c.if-not-is_whole.false, ← c.get_u64.ensures, lt-ltb _ _ c.if-get_u64-last.true))
+    rw c.at-then-get-last.ensures (simp (← w.ensures, c.if-not-is_whole.false, ← c.get.ensures, lt-ltb _ _ c.if-get-last.true))
 
 pub check_alarms-requires : goal.check_alarms-requires
 check_alarms-requires c =
@@ -34,6 +34,6 @@ pub returns : goal.returns
 unfolding check_record
 returns c =
     let w = c.is_whole in
-    let time = c.get_u64 in
+    let time = c.get in
     c.check_alarms.ensures
-    ∙ simp (← w.ensures, c.if-not-is_whole.false, ← time.ensures, le-ltb _ _ c.if-get_u64-last.false)
+    ∙ simp (← w.ensures, c.if-not-is_whole.false, ← time.ensures, le-ltb _ _ c.if-get-last.false)

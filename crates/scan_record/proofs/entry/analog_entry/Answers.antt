@@ -6,16 +6,16 @@ use Rattle.scan_record.proofs.entry.analog_entry.Goals as goal
 pub returns-then-is_beyond : goal.returns-then-is_beyond
 unfolding entry_at checked
 returns-then-is_beyond c =
-    rw c.at.ensures (simp (← c.get_u32-pattern.ensures, ← c.is_bounded_pattern-within.ensures, c.if-is_beyond.true))
+    rw c.at.ensures (simp (← c.get-pattern.ensures, ← c.is_bounded_pattern-within.ensures, c.if-is_beyond.true))
 
 pub returns-then-not-is_command : goal.returns-then-not-is_command
 unfolding entry_at checked
 returns-then-not-is_command c =
     rw c.at-then-not-is_command.ensures (simp (
-      ← c.get_u32-pattern.ensures,
+      ← c.get-pattern.ensures,
       ← c.is_bounded_pattern-within.ensures,
       c.if-is_beyond.false,
-      ← c.get_u32-word.ensures,
+      ← c.get-word.ensures,
       ← c.is_command.ensures,
       c.if-not-is_command.true,
     ))
@@ -25,10 +25,10 @@ unfolding entry_at checked
 returns c =
     simp (
       c.from_pattern.ensures,
-      ← c.get_u32-pattern.ensures,
+      ← c.get-pattern.ensures,
       ← c.is_bounded_pattern-within.ensures,
       c.if-is_beyond.false,
-      ← c.get_u32-word.ensures,
+      ← c.get-word.ensures,
       ← c.is_command.ensures,
       c.if-not-is_command.false,
     )

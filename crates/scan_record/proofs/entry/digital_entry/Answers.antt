@@ -13,7 +13,7 @@ unfolding entry_at checked
 returns-then-not-is_command c =
     rw c.at-then-not-is_command.ensures (simp (
       le-leb _ _ c.if-input-gt-HIGHEST_INPUT.false,
-      ← c.get_u32-word.ensures,
+      ← c.get-word.ensures,
       ← c.is_command.ensures,
       c.if-not-is_command.true,
     ))
@@ -23,7 +23,7 @@ unfolding entry_at checked
 returns c =
     simp (
       le-leb _ _ c.if-input-gt-HIGHEST_INPUT.false,
-      ← c.get_u32-word.ensures,
+      ← c.get-word.ensures,
       ← c.is_command.ensures,
       c.if-not-is_command.false,
     )

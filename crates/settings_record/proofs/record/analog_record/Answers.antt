@@ -14,8 +14,8 @@ returns-then-not-numbers_in_range c =
     rw c.at-then-not-numbers_in_range.ensures (simp (
       lt-ltb _ _ c.if-flags-ge-ANALOG_FLAGS.false,
       ← c.numbers_in_range.ensures,
-      ← c.get_u32-duration.ensures,
-      ← c.get_u32-period.ensures,
+      ← c.get-duration.ensures,
+      ← c.get-period.ensures,
       ← c.limits_at-limits.ensures,
       c.if-not-numbers_in_range.true,
     ))
@@ -26,8 +26,8 @@ returns-then-not-levels_apart c =
     rw c.at-then-not-levels_apart.ensures (simp (
       lt-ltb _ _ c.if-flags-ge-ANALOG_FLAGS.false,
       ← c.numbers_in_range.ensures,
-      ← c.get_u32-duration.ensures,
-      ← c.get_u32-period.ensures,
+      ← c.get-duration.ensures,
+      ← c.get-period.ensures,
       ← c.limits_at-limits.ensures,
       ← c.levels_apart.ensures,
       c.if-not-numbers_in_range.false,
@@ -40,8 +40,8 @@ returns c =
     simp (
       lt-ltb _ _ c.if-flags-ge-ANALOG_FLAGS.false,
       ← c.numbers_in_range.ensures,
-      ← c.get_u32-duration.ensures,
-      ← c.get_u32-period.ensures,
+      ← c.get-duration.ensures,
+      ← c.get-period.ensures,
       ← c.limits_at-limits.ensures,
       ← c.severities_at-severities.ensures,
       ← c.levels_apart.ensures,

@@ -11,9 +11,9 @@ returns-then-flags-ge-DIGITAL_FLAGS c = rw c.at.ensures (simp (le-ltb _ _ c.if-f
 pub returns-then-duration-gt2147483647 : goal.returns-then-duration-gt2147483647
 unfolding checked fields_at
 returns-then-duration-gt2147483647 c =
-    rw c.at-then-duration-gt2147483647.ensures (simp (lt-ltb _ _ c.if-flags-ge-DIGITAL_FLAGS.false, ← c.get_u32-duration.ensures, lt-leb _ _ c.if-duration-gt2147483647.true))
+    rw c.at-then-duration-gt2147483647.ensures (simp (lt-ltb _ _ c.if-flags-ge-DIGITAL_FLAGS.false, ← c.get-duration.ensures, lt-leb _ _ c.if-duration-gt2147483647.true))
 
 pub returns : goal.returns
 unfolding checked fields_at
 returns c =
-    simp (lt-ltb _ _ c.if-flags-ge-DIGITAL_FLAGS.false, ← c.get_u32-duration.ensures, le-leb _ _ c.if-duration-gt2147483647.false, ← c.get_u32-severity.ensures)
+    simp (lt-ltb _ _ c.if-flags-ge-DIGITAL_FLAGS.false, ← c.get-duration.ensures, le-leb _ _ c.if-duration-gt2147483647.false, ← c.get-severity.ensures)

@@ -26,8 +26,8 @@ scan_form-half-requires c =
     let d : a.counts.digital ≡ (counts_in a.settings.now).digital = ap (λ (k : Counts). k.digital) r.counts-are in
     let most = room_most w rec a.counts r.counts-are in
     record {
-      sizes = (omega (arith, r.most), r.settings-long, r.states-long, r.marks-long);
-      parts = (c.get_u64-time.ensures, omega arith, omega (arith, r.record-long));
+      sizes = (omega (arith, r.most), r.states-long, r.marks-long);
+      parts = (c.get-time.ensures, omega arith, omega (arith, r.record-long));
       have_form = rw (← d) (digital-places a.counts);
       room = omega (arith, log-grows w rec 0 a.counts.digital a.counts.analog, most, c.requires.room);
     }
@@ -48,11 +48,10 @@ scan_form-used-requires c =
     record {
       sizes = (
         omega (arith, r.most),
-        r.settings-long,
         ap length e.states_after ∙ stepped-length w rec 0 a.counts.digital ∙ r.states-long,
         ap length e.marks_after ∙ marked-length w rec 0 a.counts.digital ∙ r.marks-long,
       );
-      parts = (c.get_u64-time.ensures, rw (← d) (omega arith), omega (arith, r.record-long));
+      parts = (c.get-time.ensures, rw (← d) (omega arith), omega (arith, r.record-long));
       have_form = rw (← d) (analog-places a.counts);
       room = omega (arith, log, e.value, length_whole w rec a.counts.digital a.counts.analog, most, c.requires.room, out);
     }
@@ -90,7 +89,7 @@ returns c =
           ∙ (λ i. (e.value ∙ used) i + length (log i))
           ∙ length_whole w rec d a.counts.analog
           ∙ ap (λ (k : ℕ). length (log_from w rec 0 k)) n;
-      states_after = (λ i. set (states i) 0 (c.get_u64-time.ensures i));
+      states_after = (λ i. set (states i) 0 (c.get-time.ensures i));
       marks_after = marks;
       out_after = f.out_after
           ∙ (λ i. sets (e.out_after i) (e.value i) (log i))

@@ -1,6 +1,5 @@
 -- `sweep::alarms::scan_form` meets its contract: the invariant: the alarms before this one are stepped, logged and marked, and this one's
--- part begins here. The measure is the alarms left. Assumes nothing.
-use borrow.Author.Rules.{rules}
+-- part begins here. Assumes nothing.
 use mathlib.Core.Path.{◌≡◌, refl, sym, ap, ◌∙◌}
 use mathlib.Core.List.{List}
 use Prim.Native.Nat.{ℕ, ◌+◌, ◌-◌}
@@ -24,82 +23,66 @@ pub loop-n-init : goal.loop-n-init
 unfolding stepped_from marked_from
 loop-n-init c =
     let a = c.args in
-    let rec : List ℕ = a.bytes.now in
-    let w : Words = words_in a.settings.now a.states.now a.marks.now in (
-      search rules,
-      c.requires.parts.1 ∙ ap (offset_of (counts_in a.settings.now)) (sym (add-zero a.first)),
-      sym (ap (λ (k : ℕ). a.begin + k) (mul-zero (entry_size a.form)) ∙ add-zero a.begin),
-      sym (ap (λ (l : List ℕ). a.start + length l) (log-none w rec a.first) ∙ add-zero a.start),
-      refl,
-      refl,
-      sym (ap (sets a.out.now a.start) (log-none w rec a.first)),
-    )
+    let f = a.first in
+    let rec : List ℕ = a.scan.now.bytes.now in
+    let w : Words = words_in a.scan.now.settings.now a.states.now a.marks.now in
+    record {
+      here = c.requires.parts.1 ∙ ap (offset_of (counts_in a.scan.now.settings.now)) (sym (add-zero f.place));
+      parts = sym (ap (λ (k : ℕ). f.at + k) (mul-zero (entry_size f.form)) ∙ add-zero f.at);
+      written = sym (ap (λ (l : List ℕ). a.start + length l) (log-none w rec f.place) ∙ add-zero a.start);
+      stepped = refl;
+      marked = refl;
+      logged = sym (ap (sets a.out.now a.start) (log-none w rec f.place));
+    }
 
 pub step_place-used-requires : goal.step_place-used-requires
 step_place-used-requires c =
     let l = c.loop-n in
     let a = c.args in
-    let rec : List ℕ = a.bytes.now in
-    let w : Words = words_in a.settings.now a.states.now a.marks.now in
-    let f = c.requires.have_form (a.first + l.n) (omega arith) (omega arith) in
-    let e = ap length (log-here w rec a.first l.n f l.invariant.1 c.requires.parts.0 l.invariant.4) in
+    let p = a.first.place in
+    let rec : List ℕ = a.scan.now.bytes.now in
+    let w : Words = words_in a.scan.now.settings.now a.states.now a.marks.now in
+    let f = c.requires.have_form (p + l.n) (omega arith) (omega arith) in
+    let e = ap length (log-here w rec p l.n f l.invariant.here c.requires.parts.0 l.invariant.stepped) in
     let k : l.n + 1 + (a.count - (l.n + 1)) ≡ a.count = omega arith in
-    let g = log-grows w rec a.first (l.n + 1) (a.count - (l.n + 1)) in
-    let same = ap length l.invariant.6 ∙ length-sets a.out.now a.start (log_from w rec a.first l.n) in
-    let total = ap (λ (n : ℕ). length (log_from w rec a.first n)) k in
-    let next = length-next w rec a.first l.n in
-    let room = part-fits (entry_size a.form) l.n a.count (omega arith) in
+    let g = log-grows w rec p (l.n + 1) (a.count - (l.n + 1)) in
+    let same = ap length l.invariant.logged ∙ length-sets a.out.now a.start (log_from w rec p l.n) in
+    let total = ap (λ (n : ℕ). length (log_from w rec p n)) k in
+    let next = length-next w rec p l.n in
+    let room = part-fits (entry_size a.first.form) l.n a.count (omega arith) in
     record {
       sizes = (
-        omega arith,
-        c.requires.sizes.1,
-        ap length l.invariant.4 ∙ stepped-length w rec a.first l.n ∙ c.requires.sizes.2,
-        ap length l.invariant.5 ∙ marked-length w rec a.first l.n ∙ c.requires.sizes.3,
+        ap length l.invariant.stepped ∙ stepped-length w rec p l.n ∙ c.requires.sizes.1,
+        ap length l.invariant.marked ∙ marked-length w rec p l.n ∙ c.requires.sizes.2,
       );
       part = (
-        omega (arith, room, l.invariant.2, c.requires.parts.2),
-        omega (arith, e, g, same, total, next, l.invariant.3, c.requires.room),
+        omega (arith, room, l.invariant.parts, c.requires.parts.2),
+        omega (arith, e, g, same, total, next, l.invariant.written, c.requires.room),
       );
     }
-
-pub part_size-at-requires : goal.part_size-at-requires
-part_size-at-requires c = search rules
-
-pub loop-n-smaller : goal.loop-n-smaller
-loop-n-smaller c = search rules
 
 pub loop-n-preserved : goal.loop-n-preserved
 loop-n-preserved c =
     let l = c.loop-n in
-    let p = c.step_place-used.ensures in
+    let q = c.step_place-used.ensures in
     let a = c.args in
-    let rec : List ℕ = a.bytes.now in
-    let w : Words = words_in a.settings.now a.states.now a.marks.now in
-    let f = c.requires.have_form (a.first + l.n) (omega arith) (omega arith) in
+    let p = a.first.place in
+    let counts = counts_in a.scan.now.settings.now in
+    let rec : List ℕ = a.scan.now.bytes.now in
+    let w : Words = words_in a.scan.now.settings.now a.states.now a.marks.now in
+    let f = c.requires.have_form (p + l.n) (omega arith) (omega arith) in
     let size = c.part_size-at.ensures in
     let t = c.requires.parts.0 in
-    let e = ap length (log-here w rec a.first l.n f l.invariant.1 t l.invariant.4) in
-    let place : a.first + l.n + 1 ≡ a.first + (l.n + 1) = omega arith in (
-      omega arith,
-      (λ i. l.invariant.1 i + size i) ∙ ap (λ (g : Form). offset_of (counts_in a.settings.now) (a.first + l.n) + entry_size g) (sym f)
-          ∙ offset-next (counts_in a.settings.now) (a.first + l.n) ∙ ap (offset_of (counts_in a.settings.now)) place,
-      ap (λ (k : ℕ). l.at + k) size ∙ part-next a.begin (entry_size a.form) l.n l.invariant.2,
-      omega (arith, p.value, e, l.invariant.3, length-next w rec a.first l.n),
-      p.states_after ∙ states-next w rec a.first l.n f l.invariant.1 t l.invariant.4,
-      p.marks_after ∙ marks-next w rec a.first l.n f l.invariant.1 t l.invariant.4 l.invariant.5,
-      p.out_after ∙ out-next w rec a.first l.n f l.invariant.1 t l.invariant.4 a.out.now a.start l.invariant.6 l.invariant.3,
-    )
-
-pub returns : goal.returns
-returns c =
-    let l = c.loop-n in
-    let a = c.args in
-    let rec : List ℕ = a.bytes.now in
-    let w : Words = words_in a.settings.now a.states.now a.marks.now in
-    let n : l.n ≡ a.count = omega arith in
+    let h = l.invariant.here in
+    let s = l.invariant.stepped in
+    let e = ap length (log-here w rec p l.n f h t s) in
+    let place : p + l.n + 1 ≡ p + (l.n + 1) = omega arith in
     record {
-      value = l.invariant.3 ∙ ap (λ (k : ℕ). a.start + length (log_from w rec a.first k)) n;
-      states_after = l.invariant.4 ∙ ap (stepped_from w rec a.first) n;
-      marks_after = l.invariant.5 ∙ ap (marked_from w rec a.first) n;
-      out_after = l.invariant.6 ∙ ap (λ (k : ℕ). sets a.out.now a.start (log_from w rec a.first k)) n;
+      here = (λ i. h i + size i) ∙ ap (λ (g : Form). offset_of counts (p + l.n) + entry_size g) (sym f) ∙ offset-next counts (p + l.n)
+          ∙ ap (offset_of counts) place;
+      parts = ap (λ (k : ℕ). l.at + k) size ∙ part-next a.first.at (entry_size a.first.form) l.n l.invariant.parts;
+      written = omega (arith, q.value, e, l.invariant.written, length-next w rec p l.n);
+      stepped = q.states_after ∙ states-next w rec p l.n f h t s;
+      marked = q.marks_after ∙ marks-next w rec p l.n f h t s l.invariant.marked;
+      logged = q.out_after ∙ out-next w rec p l.n f h t s a.out.now a.start l.invariant.logged l.invariant.written;
     }

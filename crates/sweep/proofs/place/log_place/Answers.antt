@@ -1,5 +1,4 @@
 -- `sweep::place::log_place` meets its contract. Assumes nothing.
-use borrow.Author.Rules.{rules}
 use mathlib.Core.Path.{◌≡◌, sym, ap, ◌∙◌}
 use mathlib.Core.List.{List, []}
 use Prim.Native.Nat.{ℕ, ◌+◌, ◌*◌}
@@ -15,46 +14,45 @@ use Rattle.event.specs.Event.{log_bytes}
 use Rattle.state.specs.Internal.State.{starts_of, state_in, state_at}
 use Rattle.event.specs.Internal.Bits.{events_of}
 use Rattle.event.proofs.Logs.{no-events}
-use Rattle.marks.specs.Internal.Marks.{mark_alarm}
 use Rattle.marks.proofs.Still.{alarm-still}
 use Rattle.sweep.specs.Internal.Sweep.{state_log, state_marks}
-use Rattle.sweep.proofs.Stepped.{starts-in}
+use Rattle.sweep.proofs.Stepped.{log-same, marks-same}
 use Rattle.sweep.proofs.place.log_place.Goals as goal
 
 pub returns-then-events-eq0 : goal.returns-then-events-eq0
 unfolding state_log state_marks log_bytes
 returns-then-events-eq0 c =
     let a = c.args in
+    let s = a.scan.now in
+    let p = a.part.place in
     let z : a.events ≡ 0 = c.if-events-eq0.true in
-    let alarm = alarm_in a.form a.settings.now (alarm_at a.place) in
-    let state = state_in a.states.now (state_at a.place) in
-    let none : events_of (a.place + 1) alarm.kind (bit state.flags 1) a.time word_bits 0 a.events ≡ [] =
-    rw z (no-events (a.place + 1) alarm.kind (bit state.flags 1) a.time word_bits 0) in
+    let alarm = alarm_in a.part.form s.settings.now (alarm_at p) in
+    let state = state_in a.states.now (state_at p) in
+    let none : events_of (p + 1) alarm.kind (bit state.flags 1) s.time word_bits 0 a.events ≡ [] =
+    rw z (no-events (p + 1) alarm.kind (bit state.flags 1) s.time word_bits 0) in
     let e = ap log_bytes none in
     record {
       value = sym (ap (λ (bs : List ℕ). a.used + length bs) e ∙ add-zero a.used);
-      marks_after = sym (alarm-still (ack_required alarm.kind alarm.flags) (starts_of state) a.time (25 * a.place) a.marks.now z);
+      marks_after = sym (alarm-still (ack_required alarm.kind alarm.flags) (starts_of state) s.time (25 * p) a.marks.now z);
       out_after = sym (ap (sets a.out.now a.used) e);
     }
 
 pub put_events-requires : goal.put_events-requires
-unfolding state_log state_in alarm_in
 put_events-requires c =
-    (search rules, rw c.lower-flags.ensures c.requires.room)
+    let a = c.args in
+    rw (log-same a.scan.now a.part a.states.now a.events c.number.ensures c.settings_at-from.ensures c.state_at-kept.ensures c.lower-flags.ensures)
+    c.requires.room
 
 pub returns : goal.returns
-unfolding state_log state_marks state_in alarm_in
 returns c =
     let a = c.args in
     let p = c.put_events.ensures in
-    let l = c.lower-flags.ensures in
-    let alarm = alarm_in a.form a.settings.now (alarm_at a.place) in
-    let log : ℕ → List ℕ = λ v. log_bytes (events_of (a.place + 1) alarm.kind (bit v 1) a.time word_bits 0 a.events) in
-    let required = c.required_in-required.ensures in
-    let starts = starts-in a.states.now (state_at a.place) in
+    let log =
+    log-same a.scan.now a.part a.states.now a.events c.number.ensures c.settings_at-from.ensures c.state_at-kept.ensures c.lower-flags.ensures in
     record {
-      value = p.value ∙ ap (λ (v : ℕ). a.used + length (log v)) l;
+      value = p.value ∙ ap (λ (bs : List ℕ). a.used + length bs) log;
       marks_after = c.mark_alarm.ensures
-          ∙ (λ i. mark_alarm (required i) (starts i) a.events a.time (25 * a.place) a.marks.now);
-      out_after = p.out_after ∙ ap (λ (v : ℕ). sets a.out.now a.used (log v)) l;
+          ∙ marks-same a.scan.now a.part a.states.now a.events c.settings_at-from.ensures c.state_at-kept.ensures
+          c.required_in-required.ensures a.marks.now;
+      out_after = p.out_after ∙ ap (sets a.out.now a.used) log;
     }

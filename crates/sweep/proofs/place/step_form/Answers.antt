@@ -1,37 +1,28 @@
 -- `sweep::place::step_form` meets its contract: by the form, the part's size and the step. Assumes nothing.
-use native.Mathlib.Omega.{arith}
 use Rattle.layout.specs.Internal.Words.{alarm_in}
 use Rattle.sweep.specs.Internal.Step.{step_kind}
 use Rattle.sweep.specs.Internal.Sweep.{place_step, place_states}
 use Rattle.sweep.proofs.place.step_form.Goals as goal
 
-pub bounds-bytes-at : goal.bounds-bytes-at
-bounds-bytes-at c = omega (arith, rw c.in-Digital.is at c.requires.3)
-
-pub get_u32-word-requires : goal.get_u32-word-requires
-get_u32-word-requires c = omega (arith, rw c.in-Digital.is at c.requires.3)
-
-pub get_real-requires : goal.get_real-requires
-get_real-requires c = omega (arith, rw c.in-Analog.is at c.requires.3)
-
-pub get_u32-word-requires-in-Analog : goal.get_u32-word-requires-in-Analog
-get_u32-word-requires-in-Analog c = omega (arith, rw c.in-Analog.is at c.requires.3)
-
 pub returns-in-Digital : goal.returns-in-Digital
 unfolding place_step place_states step_kind alarm_in
-returns-in-Digital c = record {
-  value = rw (c.in-Digital.is, ← c.get_u32-word.ensures)
-      c.digital_step.ensures.value;
-  states_after = rw (c.in-Digital.is, ← c.get_u32-word.ensures)
-      c.digital_step.ensures.states_after;
-}
+returns-in-Digital c =
+    let from = c.settings_at-from.ensures in
+    let kept = c.state_at-kept.ensures in
+    let word = c.get-word.ensures in
+    record {
+      value = rw c.in-Digital.is (rw (from, kept, word) at c.digital_step.ensures.value);
+      states_after = rw c.in-Digital.is (rw (from, kept, word) at c.digital_step.ensures.states_after);
+    }
 
 pub returns-in-Analog : goal.returns-in-Analog
 unfolding place_step place_states step_kind alarm_in
 returns-in-Analog c =
+    let from = c.settings_at-from.ensures in
+    let kept = c.state_at-kept.ensures in
+    let word = c.get-word-in-Analog.ensures in
+    let real = c.get.ensures in
     record {
-      value = rw (c.in-Analog.is, ← c.get_u32-word-in-Analog.ensures, ← c.get_real.ensures)
-          c.analog_step.ensures.value;
-      states_after = rw (c.in-Analog.is, ← c.get_u32-word-in-Analog.ensures, ← c.get_real.ensures)
-          c.analog_step.ensures.states_after;
+      value = rw c.in-Analog.is (rw (from, kept, word, real) at c.analog_step.ensures.value);
+      states_after = rw c.in-Analog.is (rw (from, kept, word, real) at c.analog_step.ensures.states_after);
     }

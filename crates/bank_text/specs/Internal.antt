@@ -1,0 +1,3 @@
+-- What contracts and proofs use and a reader need not believe.
+pub mod Owned
+pub mod Show

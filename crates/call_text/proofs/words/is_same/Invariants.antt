@@ -1,9 +1,0 @@
--- `call_text::words::is_same` ends: the measure is the bytes left.
-use Rattle.std.proofs.Common.{length, ◌-◌, ◌≡◌}
-use Rattle.call_text.proofs.words.is_same.Given as goal
-
-abbrev pub invariant-loop-i : goal.invariant-loop-i
-invariant-loop-i l = length l.a ≡ length l.b
-
-abbrev pub decreases-loop-i : goal.decreases-loop-i
-decreases-loop-i l = length l.a - l.i

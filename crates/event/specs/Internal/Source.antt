@@ -1,0 +1,10 @@
+-- The bytes of the events of an alarm that are written.
+use Rattle.std.specs.Prelude.{ℕ, List}
+use Rattle.layout.specs.Internal.Words.{kind_in}
+use Rattle.event.specs.declared.source.Source.{Source}
+use Rattle.event.specs.Event.{log_bytes}
+use Rattle.event.specs.Internal.Bits.{events_of}
+
+-- of n bits of an event word from bit k on
+abbrev pub source_log : Source → ℕ → ℕ → ℕ → List ℕ
+source_log s n k word = log_bytes (events_of s.number (kind_in s.form s.settings.now s.from) s.suppressed s.time n k word)

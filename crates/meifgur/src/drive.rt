@@ -1,0 +1,56 @@
+// A drive: scan records run on a bank.
+use crate::show::{write_conditions, write_events};
+use bank_text::owned::Bank;
+use bank_text::show::Refused;
+use scan::scan::EVENTS_ENOUGH;
+use scan_record::check::record_length;
+use std::alloc::Global;
+use std::io::{Read, Write};
+use text::console::Console;
+use text::failure::Failure;
+use text::pieces::Pieces;
+
+// Runs a record, and writes its events or its refusal.
+fn answer_record<W: Write>(bank: &mut Bank, record: &[u8], output: &mut W) -> Result<(), Failure> {
+    // A rule of the project: an array, lent to every scan.
+    let mut events = [0; EVENTS_ENOUGH];
+    match bank.scan(record, &mut events) {
+        Ok(number) => write_events(output, &events, number)?,
+        Err(refusal) => writeln!(output, "{}", Refused(refusal))?,
+    }
+    Ok(())
+}
+
+// Makes a bank of a settings image, runs the records of an input on it, and writes how each condition stands at the end. An input that
+// fails has no end, and nothing is written then.
+pub fn drive<R: Read + Drop, W: Write + Drop>(
+    alloc: Global,
+    image: &[u8],
+    input: R,
+    output: W,
+) -> Result<(), Failure> {
+    let mut console = Console::new(alloc, input, output)?;
+    let outcome = answer_all(alloc, image, &mut console);
+    console.end(outcome)
+}
+
+fn answer_all<R: Read + Drop, W: Write + Drop>(
+    alloc: Global,
+    image: &[u8],
+    console: &mut Console<R, W>,
+) -> Result<(), Failure> {
+    let mut bank = Bank::new();
+    if let Err(refusal) = bank.load(image) {
+        writeln!(console.output, "{}", Refused(refusal))?;
+        return Ok(());
+    }
+    let records = Pieces::Records(record_length(bank.counts()));
+    console.answer_pieces(alloc, records, |record, output| {
+        answer_record(&mut bank, record, output)
+    })?;
+    write_conditions(&mut console.output, &bank)?;
+    Ok(())
+}
+
+#[cfg(test)]
+mod tests;

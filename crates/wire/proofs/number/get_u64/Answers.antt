@@ -1,9 +1,0 @@
--- `wire::number::get_u64` meets its contract: two halves, the lower first. Assumes nothing.
-use native.Mathlib.Omega.{arith}
-use Rattle.wire.proofs.Laws.{number-add}
-use Rattle.wire.proofs.number.get_u64.Goals as goal
-
-pub returns : goal.returns
-returns c =
-    let a = c.args in
-    omega (arith, number-add a.s.now a.at 4 4 (omega arith))
