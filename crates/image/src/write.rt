@@ -148,7 +148,7 @@ fn put_section(
     put_records(out, at + 1, form, first, first + count, words)
 }
 
-// The length of the image of settings with these counts.
+// The length of the image of settings with these counts. A name of its own, so that callers read one clause and no sum.
 fn image_size(counts: Counts) -> usize
     requires { Few counts }
     ensures { result ≡ size_of_image counts }

@@ -29,7 +29,7 @@ pub fn counts_in(words: &[u64]) -> Counts
     }
 }
 
-// The word at a place; 0 behind the last.
+// The word at a place; 0 behind the last. A name of its own, so that callers read one clause and no Option.
 fn word_at(words: &[u64], at: usize) -> u64
     ensures { result ≡ get_or words.now at 0 }
 {

@@ -9,7 +9,8 @@ use text::failure::Failure;
 // 843, as the first byte left over does, which is the place of refusal 6.
 const IMAGE_SIZE: u64 = 1024;
 
-// The front of a file. A missing file counts as no bytes. So does one that can't be opened or read; standard error then has the reason.
+// The front of a file. A missing file counts as no bytes. Of one that can't be opened or read, what was read before counts; standard
+// error then has the reason.
 pub fn read_image(
     rt: &(impl Files + AllocGlobal + Eprint),
     name: &str,

@@ -14,6 +14,7 @@ use settings::refusals::{Reason, Refusal};
 use settings::types::Form;
 use wire::number::LittleEndian;
 
+// The length of a record, of counts that a bank may have. A name of its own, so that callers read one clause and no sum.
 fn length_of(counts: Counts) -> usize
     requires { Few counts }
     ensures { result ≡ record_size counts }

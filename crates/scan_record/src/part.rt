@@ -16,6 +16,7 @@ pub const DIGITAL_PART: usize = 5;
 
 pub const ANALOG_PART: usize = 8;
 
+// How long a part is. A name of its own, so that callers read one clause and no match.
 pub fn part_size(form: Form) -> usize
     ensures { result ≡ entry_size form }
 {

@@ -103,6 +103,7 @@ fn analog_record(image: &[u8], at: usize) -> Result<(Alarm, usize), Refusal>
     Ok((alarm, at + ANALOG_SIZE))
 }
 
+// How long a record is. A name of its own, so that callers read one clause and no match.
 pub fn record_size(form: Form) -> usize
     ensures { result ≡ size_of form }
 {

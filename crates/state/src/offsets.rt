@@ -3,11 +3,8 @@
 // The flags in the lower half, the last accepted command word in the upper.
 pub const FLAGS: usize = 0;
 
-// The patterns of the rate sample and of the rate.
+// The patterns of the rate sample and of the rate; the sample's time stands behind them.
 pub const SAMPLE: usize = 1;
-
-// The sample's time.
-pub const SAMPLED: usize = 2;
 
 // When the runs of the high and the low side began.
 pub const HIGH: usize = 3;

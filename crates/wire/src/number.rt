@@ -42,6 +42,7 @@ fn put_bytes<const N: usize>(s: &mut [u8], at: usize, bytes: [u8; N])
     s[at..at + N].copy_from_slice(&bytes);
 }
 
+// The impls differ in a type only: no macro may write one here, and Rattle has no computed const argument for `[u8; Self::WIDTH]`.
 impl LittleEndian for u16 {
     ghost width = { 2 };
 
