@@ -14,7 +14,9 @@ fn pattern_at(place: usize) -> u8 {
 }
 
 impl Pattern {
-    pub fn new(alloc: Global) -> Result<Pattern, AllocError> {
+    pub fn new(alloc: Global) -> Result<Pattern, AllocError>
+        ensures { IfOk result (λ pattern. vec_len pattern.0 ≡ MOST_ROOM) }
+    {
         let bytes = (0..MOST_ROOM).map(pattern_at).collect(alloc)?;
         Ok(Pattern(bytes))
     }

@@ -1,12 +1,14 @@
 // Calls run on a bank, and answered.
-ghost use Rattle.std.specs.Prelude.{◌≤◌, length, vec_len};
+ghost use Rattle.std.specs.Prelude.{◌≡◌, ◌≤◌, [], ◌∷◌, IfOk, length, vec_len};
+ghost use Rattle.bank.specs.Internal.Load.{load_words};
+ghost use Rattle.bank_text.specs.Internal.Owned.{words_of, blank_words};
 
 use crate::lent::Pattern;
 use crate::reply::{Report, Written};
 use bank_text::owned::Bank;
 use bank_text::show::Refused;
 use call_text::call::{Call, Line, parse};
-use call_text::fault::BadLine;
+use call_text::fault::{BadLine, MOST_ROOM};
 use event::write::EVENT_SIZE;
 use settings::refusals::Refusal;
 use std::alloc::{AllocError, Global};
@@ -24,7 +26,10 @@ pub struct Session {
 
 impl Session {
     // Before the first settings the bank has no alarms.
-    pub fn new(alloc: Global) -> Result<Session, AllocError> {
+    pub fn new(alloc: Global) -> Result<Session, AllocError>
+        ensures bank { IfOk result (λ session. words_of session.bank ≡ load_words blank_words (0 ∷ 0 ∷ [])) }
+        ensures pattern { IfOk result (λ session. vec_len session.pattern.0 ≡ MOST_ROOM) }
+    {
         Ok(Session {
             alloc,
             bank: Bank::new(),
