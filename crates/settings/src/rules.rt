@@ -6,7 +6,15 @@ ghost use Rattle.settings.specs.Numbers.{reals, real_limit};
 ghost use Rattle.settings.specs.Rules.{limits_in_range, in_range, rising, banded, apart};
 
 use crate::types::Limits;
+use wire::bits::is_set;
+use wire::places::{H_ENABLED, HH_ENABLED, L_ENABLED, LL_ENABLED};
 use wire::real::is_bounded;
+
+// The longest ROCPeriod: an hour, in milliseconds.
+pub const LONGEST_PERIOD: u32 = 3_600_000;
+
+// The longest MinDuration: the highest DINT.
+pub const LONGEST_DURATION: u32 = 0x7FFF_FFFF;
 
 fn limits_in_range(g: Limits) -> bool
     ensures { result ≡ limits_in_range reals (real_limit g) g.deadband }
@@ -20,7 +28,7 @@ fn limits_in_range(g: Limits) -> bool
 pub fn numbers_in_range(g: Limits, period: u32, duration: u32) -> bool
     ensures { result ≡ in_range reals (real_limit g) g.deadband period duration }
 {
-    limits_in_range(g) & (period <= 3_600_000) & (duration <= 0x7FFF_FFFF)
+    limits_in_range(g) & (period <= LONGEST_PERIOD) & (duration <= LONGEST_DURATION)
 }
 
 // A level: whether the flags enable it, and its limit.
@@ -45,21 +53,22 @@ fn levels_of(flags: u8, g: Limits) -> Levels
         (result.l.enabled ≡ on flags L) × (result.ll.enabled ≡ on flags LL) }
     ensures limits { (result.hh.limit ≡ g.hh) × (result.h.limit ≡ g.h) × (result.l.limit ≡ g.l) × (result.ll.limit ≡ g.ll) }
 {
+    let on = u32::from(flags);
     Levels {
         hh: Level {
-            enabled: flags % 2 == 1,
+            enabled: is_set(on, HH_ENABLED),
             limit: g.hh,
         },
         h: Level {
-            enabled: flags / 2 % 2 == 1,
+            enabled: is_set(on, H_ENABLED),
             limit: g.h,
         },
         l: Level {
-            enabled: flags / 4 % 2 == 1,
+            enabled: is_set(on, L_ENABLED),
             limit: g.l,
         },
         ll: Level {
-            enabled: flags / 8 % 2 == 1,
+            enabled: is_set(on, LL_ENABLED),
             limit: g.ll,
         },
     }

@@ -9,7 +9,7 @@ use crate::fields::{
     SEVERITY_L, SEVERITY_LL, SEVERITY_ROCNEG, SEVERITY_ROCPOS,
 };
 use settings::refusals::{Reason, Refusal};
-use settings::rules::{levels_apart, numbers_in_range};
+use settings::rules::{LONGEST_DURATION, levels_apart, numbers_in_range};
 use settings::types::{Alarm, Form, Kind, Limits, Severities};
 use wire::number::{LittleEndian, has};
 
@@ -59,7 +59,7 @@ fn digital_record(image: &[u8], at: usize) -> Result<(Alarm, usize), Refusal>
     if DIGITAL_FLAGS <= flags {
         return Err(Reason::UnknownFlag.at(at));
     }
-    if 0x7FFF_FFFF < duration {
+    if LONGEST_DURATION < duration {
         return Err(Reason::OutOfRange.at(at));
     }
     let kind = Kind::Digital { severity };

@@ -8,12 +8,16 @@ pub returns-then-flags-ge-DIGITAL_FLAGS : goal.returns-then-flags-ge-DIGITAL_FLA
 unfolding checked fields_at
 returns-then-flags-ge-DIGITAL_FLAGS c = rw c.at.ensures (simp (le-ltb _ _ c.if-flags-ge-DIGITAL_FLAGS.true))
 
-pub returns-then-duration-gt2147483647 : goal.returns-then-duration-gt2147483647
+pub returns-then-duration-gt-LONGEST_DURATION : goal.returns-then-duration-gt-LONGEST_DURATION
 unfolding checked fields_at
-returns-then-duration-gt2147483647 c =
-    rw c.at-then-duration-gt2147483647.ensures (simp (lt-ltb _ _ c.if-flags-ge-DIGITAL_FLAGS.false, ← c.get-duration.ensures, lt-leb _ _ c.if-duration-gt2147483647.true))
+returns-then-duration-gt-LONGEST_DURATION c =
+    rw c.at-then-duration-gt-LONGEST_DURATION.ensures (simp (
+      lt-ltb _ _ c.if-flags-ge-DIGITAL_FLAGS.false,
+      ← c.get-duration.ensures,
+      lt-leb _ _ c.if-duration-gt-LONGEST_DURATION.true,
+    ))
 
 pub returns : goal.returns
 unfolding checked fields_at
 returns c =
-    simp (lt-ltb _ _ c.if-flags-ge-DIGITAL_FLAGS.false, ← c.get-duration.ensures, le-leb _ _ c.if-duration-gt2147483647.false, ← c.get-severity.ensures)
+    simp (lt-ltb _ _ c.if-flags-ge-DIGITAL_FLAGS.false, ← c.get-duration.ensures, le-leb _ _ c.if-duration-gt-LONGEST_DURATION.false, ← c.get-severity.ensures)
