@@ -9,10 +9,10 @@ use settings::refusals::{Reason, Refusal};
 pub fn count_at(image: &[u8], at: usize) -> Result<(usize, usize), Refusal>
     ensures { result ≡ count_at image.now at }
 {
-    if image.len() <= at {
+    let Some(byte) = image.get(at) else {
         return Err(Reason::Incomplete.at(at));
-    }
-    let n = usize::from(image[at]);
+    };
+    let n = usize::from(*byte);
     if n <= MOST {
         Ok((n, at + 1))
     } else {
