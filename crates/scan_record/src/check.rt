@@ -44,18 +44,12 @@ fn check_form(
     requires { (first ≤ end) × (begin + entry_size form * (end - first) ≤ length bytes.now) }
     ensures { result ≡ check_form form bytes.now (end - first) first begin }
 {
-    let mut reply = Ok(());
     let mut at = begin;
     for place in first..end {
-        match entry_at(bytes, at, form, place + 1) {
-            Ok(entry) => at = entry.next,
-            Err(refusal) => {
-                reply = Err(refusal);
-                break;
-            }
-        }
+        let entry = entry_at(bytes, at, form, place + 1)?;
+        at = entry.next;
     }
-    reply
+    Ok(())
 }
 
 // Checks each alarm in number order, the digital ones first, and answers the first refusal, of a record that has the

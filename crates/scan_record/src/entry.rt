@@ -84,9 +84,7 @@ fn analog_entry(bytes: &[u8], at: usize, alarm: usize) -> Result<Entry, Refusal>
 {
     let pattern = u32::get(bytes, at);
     let word = u32::get(bytes, at + ANALOG_WORD);
-    let within = is_bounded_pattern(pattern);
-    let is_beyond = !within;
-    if is_beyond {
+    if !is_bounded_pattern(pattern) {
         return Err(Reason::BadReal.at(alarm));
     }
     if !is_command(word, Form::Analog) {

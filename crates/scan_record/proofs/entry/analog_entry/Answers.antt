@@ -3,18 +3,18 @@ use Rattle.settings.specs.Refusals.{checked}
 use Rattle.scan_record.specs.Entry.{entry_at}
 use Rattle.scan_record.proofs.entry.analog_entry.Goals as goal
 
-pub returns-then-is_beyond : goal.returns-then-is_beyond
+pub returns-then-not-is_bounded_pattern : goal.returns-then-not-is_bounded_pattern
 unfolding entry_at checked
-returns-then-is_beyond c =
-    rw c.at.ensures (simp (← c.get-pattern.ensures, ← c.is_bounded_pattern-within.ensures, c.if-is_beyond.true))
+returns-then-not-is_bounded_pattern c =
+    rw c.at.ensures (simp (← c.get-pattern.ensures, ← c.is_bounded_pattern.ensures, c.if-not-is_bounded_pattern.true))
 
 pub returns-then-not-is_command : goal.returns-then-not-is_command
 unfolding entry_at checked
 returns-then-not-is_command c =
     rw c.at-then-not-is_command.ensures (simp (
       ← c.get-pattern.ensures,
-      ← c.is_bounded_pattern-within.ensures,
-      c.if-is_beyond.false,
+      ← c.is_bounded_pattern.ensures,
+      c.if-not-is_bounded_pattern.false,
       ← c.get-word.ensures,
       ← c.is_command.ensures,
       c.if-not-is_command.true,
@@ -26,8 +26,8 @@ returns c =
     simp (
       c.from_pattern.ensures,
       ← c.get-pattern.ensures,
-      ← c.is_bounded_pattern-within.ensures,
-      c.if-is_beyond.false,
+      ← c.is_bounded_pattern.ensures,
+      c.if-not-is_bounded_pattern.false,
       ← c.get-word.ensures,
       ← c.is_command.ensures,
       c.if-not-is_command.false,
