@@ -8,7 +8,7 @@ ghost use Rattle.scan_record.specs.Internal.Forms.{check_form};
 ghost use Rattle.scan_record.specs.Check.{check_from, check_record};
 
 use crate::entry::entry_at;
-use crate::part::{ANALOG_PART, DIGITAL_PART, TIME_SIZE};
+use crate::part::{ANALOG_PART, DIGITAL_PART, TIME_SIZE, analog_begin};
 use settings::counts::{Counts, are_good, in_all, sum_of};
 use settings::refusals::{Reason, Refusal};
 use settings::types::Form;
@@ -60,7 +60,7 @@ fn check_alarms(bytes: &[u8], counts: Counts) -> Result<(), Refusal>
     ensures { result ≡ check_from bytes.now counts (in_all counts) 0 8 }
 {
     check_form(bytes, Form::Digital, TIME_SIZE, 0, counts.digital)?;
-    let begin = TIME_SIZE + DIGITAL_PART * counts.digital;
+    let begin = analog_begin(counts);
     check_form(bytes, Form::Analog, begin, counts.digital, in_all(counts))
 }
 

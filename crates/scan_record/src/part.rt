@@ -1,7 +1,9 @@
 // Where things stand in a scan record: the time, then each alarm's part, a reading and a command word of four bytes.
 ghost use Rattle.std.specs.Prelude.{◌≡◌};
-ghost use Rattle.scan_record.specs.Part.{entry_size};
+ghost use Rattle.settings.specs.Internal.Few.{Few};
+ghost use Rattle.scan_record.specs.Part.{entry_size, offset_of};
 
+use settings::counts::Counts;
 use settings::types::Form;
 
 pub const TIME_SIZE: usize = 8;
@@ -24,4 +26,12 @@ pub fn part_size(form: Form) -> usize
         Form::Digital => DIGITAL_PART,
         Form::Analog => ANALOG_PART,
     }
+}
+
+// Where the analog alarms' parts begin: behind the time and the digital alarms' parts.
+pub fn analog_begin(counts: Counts) -> usize
+    requires { Few counts }
+    ensures { result ≡ offset_of counts counts.digital }
+{
+    TIME_SIZE + DIGITAL_PART * counts.digital
 }

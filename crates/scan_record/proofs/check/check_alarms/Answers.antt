@@ -1,6 +1,6 @@
 -- `scan_record::check::check_alarms` meets its contract: the digital alarms and then the analog ones are all alarms. Assumes nothing.
 use mathlib.Core.Path.{◌≡◌, sym, ◌∙◌}
-use Prim.Native.Nat.{◌-◌}
+use Prim.Native.Nat.{◌+◌, ◌*◌, ◌-◌}
 use native.Mathlib.Nat.{sub-zero}
 use native.Mathlib.Omega.{arith}
 use Rattle.std.proofs.lemmas.Result.{err_from_is_err_and}
@@ -19,4 +19,5 @@ returns c =
     let a = c.args in
     let found = rw sub-zero at (sym c.check_form.ensures ∙ c.in_ok-check_form.was) in
     let left : c.in_all.result - a.counts.digital ≡ a.counts.analog = omega arith in
-    rw (both-forms a.bytes.now a.counts, found, ← left) c.check_form-2.ensures
+    let begin : c.analog_begin-begin.result ≡ 8 + 5 * a.counts.digital = omega arith in
+    rw (both-forms a.bytes.now a.counts, found, ← left, ← begin) c.check_form-2.ensures
