@@ -2,6 +2,7 @@
 #![tactic(auto)]
 
 pub mod finish;
+pub mod inputs;
 pub mod sides;
 pub mod starts;
 pub mod step;

@@ -1,18 +1,12 @@
-// Of a word with a bit for each of the six conditions, the levels of each side.
-ghost use Rattle.std.specs.Prelude.{◌≡◌, ◌||◌};
-ghost use Rattle.wire.specs.Bits.{bit};
+// The levels of a side, in a word with a bit for each of the six conditions.
+ghost use Rattle.std.specs.Prelude.{◌≡◌, ◌||◌, ◌/◌, ◌%◌, ◌<◌, eqb};
 
 use wire::bits::is_set;
-use wire::places::{AT_H, AT_HH, AT_L, AT_LL};
 
-pub fn is_high(six: u32) -> bool
-    ensures { result ≡ bit six 0 || bit six 3 }
+// Whether one of two bits is set, by what a one counts there: HH and H are the high side, L and LL the low one.
+pub fn either(six: u32, one: u32, other: u32) -> bool
+    requires { (0 < one) × (0 < other) }
+    ensures { result ≡ eqb (six / one % 2) 1 || eqb (six / other % 2) 1 }
 {
-    is_set(six, AT_HH) | is_set(six, AT_H)
-}
-
-pub fn is_low(six: u32) -> bool
-    ensures { result ≡ bit six 6 || bit six 9 }
-{
-    is_set(six, AT_L) | is_set(six, AT_LL)
+    is_set(six, one) | is_set(six, other)
 }

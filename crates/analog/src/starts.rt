@@ -1,11 +1,12 @@
 // When the runs of both sides and the rows of the six conditions began.
-ghost use Rattle.std.specs.Prelude.{◌≡◌, ◌+◌, ◌≤◌, length};
+ghost use Rattle.std.specs.Prelude.{◌≡◌};
 ghost use Rattle.wire.specs.Bits.{bit};
 ghost use Rattle.state.specs.Internal.Starts.{keep_starts};
 ghost use Rattle.analog.specs.Internal.Packed.{row_begins, all_begin};
 
-use crate::sides::{is_high, is_low};
+use crate::sides::either;
 use state::begin::begin_each;
+use state::offsets::STARTS_WORDS;
 use wire::bits::{is_set, only_in};
 use wire::places::{
     AT_H, AT_HH, AT_L, AT_LL, AT_ROCNEG, AT_ROCPOS, HH_ROW, HIGH_RUN, LOW_RUN, every,
@@ -20,14 +21,13 @@ fn rows_begin(flags: u32, enabled: bool, met: u32) -> u32
     only_in(met & every(enabled), flags / HH_ROW)
 }
 
-// The starts from `at` on: of both sides and of the six conditions. Most scans begin none.
-pub fn begin_all(states: &mut [u64], at: usize, flags: u32, enabled: bool, met: u32, time: u64)
-    requires { at + 8 ≤ length states.old }
-    ensures { states.new ≡ keep_starts (all_begin flags enabled met) time at states.old }
+// The starts of both sides and of the six conditions. Most scans begin none.
+pub fn begin_all(starts: &mut [u64; STARTS_WORDS], flags: u32, enabled: bool, met: u32, time: u64)
+    ensures { starts.new ≡ keep_starts (all_begin flags enabled met) time 0 starts.old }
 {
     let begins = rows_begin(flags, enabled, met);
-    let high = enabled & is_high(met) & !is_set(flags, HIGH_RUN);
-    let low = enabled & is_low(met) & !is_set(flags, LOW_RUN);
+    let high = enabled & either(met, AT_HH, AT_H) & !is_set(flags, HIGH_RUN);
+    let low = enabled & either(met, AT_L, AT_LL) & !is_set(flags, LOW_RUN);
     if (begins == 0) & !high & !low {
         return;
     }
@@ -41,5 +41,5 @@ pub fn begin_all(states: &mut [u64], at: usize, flags: u32, enabled: bool, met: 
         is_set(begins, AT_ROCPOS),
         is_set(begins, AT_ROCNEG),
     ];
-    begin_each(states, at, all, time);
+    begin_each(starts, all, time);
 }

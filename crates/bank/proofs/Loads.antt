@@ -19,13 +19,13 @@ use Rattle.settings.specs.declared.types.Form.TheVariants.{Digital as DigitalFor
 use Rattle.std.proofs.Common.{Ok}
 use Rattle.settings_record.specs.Record.{word_place, size_of, severities_at, limits_at, fields_at, record_at}
 use Rattle.settings_record.proofs.Laws.{was_read}
-use Rattle.layout.specs.Internal.Block.{placed, settings_in, settings_words}
+use Rattle.layout.specs.Internal.Block.{placed, settings_in, settings_words, state_at}
 use Rattle.layout.proofs.Laws.{length-placed, placed_below}
 use Rattle.layout.proofs.Back.{Kept, digital-kept, Reals, analog-kept, block-is, settings-back}
 use Rattle.reader.specs.Read.{settings_of}
 use Rattle.reader.proofs.Filled.{settled}
 use Rattle.state.specs.Internal.Held.{fresh_state}
-use Rattle.state.specs.Internal.State.{State, state_in, state_at}
+use Rattle.state.specs.Internal.State.{State, state_in}
 use Rattle.bank.specs.Internal.Bank.{fresh_bank, load_of}
 use Rattle.bank.specs.Internal.Words.{fit_of, bank_in}
 use Rattle.bank.specs.Internal.Load.{loaded_words}

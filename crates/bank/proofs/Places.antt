@@ -1,20 +1,21 @@
 -- What the words of a bank say place by place. Assumes nothing.
+use mathlib.Core.Logic.{◌≢◌}
 use mathlib.Core.Path.{◌≡◌, refl}
 use mathlib.Core.Bool.{Bool, true, false, cond}
 use Prim.Native.Nat.{ℕ, ◌≤◌, ◌<◌}
 use native.Mathlib.Omega.{arith}
-use borrow.Author.Tests.{eqb-true}
+use borrow.Author.Tests.{eqb-true, eq-eqb, ne_eqb}
 use lib.Dec.{eqb}
 use lib.ListN.{length, get_or, replicate, length-replicate}
 use Rattle.layout.proofs.Laws.{placed_below}
 use Rattle.wire.proofs.Laws.{and-true}
 use Rattle.settings.specs.Alarm.{blank, blanks}
-use Rattle.layout.specs.Internal.Block.{no_bank}
+use Rattle.layout.specs.Internal.Block.{no_bank, state_at}
 use Rattle.std.proofs.Common.{Ok, Err}
 use Rattle.settings.specs.declared.refusals.Refusal.{Refusal}
 use Rattle.layout.specs.Internal.Block.{layout_word, count_in, alarm_on, settings_in, is_block}
 use Rattle.state.specs.Internal.Held.{fresh_state}
-use Rattle.state.specs.Internal.State.{state_in, state_at}
+use Rattle.state.specs.Internal.State.{state_in}
 use Rattle.bank.specs.Lent.{Words}
 use Rattle.bank.specs.Internal.Words.{fit_of, bank_in}
 
@@ -60,3 +61,21 @@ fit-says w e =
       states-long = eqb-true _ _ t.1;
       marks-long = eqb-true _ _ t.2;
     }
+
+-- what the tests of the three blocks lead to
+module _ (w : Words) where
+  pub no-settings : is_block w.settings ≡ false → Err (no_bank 0) ≡ fit_of w
+  unfolding fit_of
+  no-settings s = rw s
+
+  pub no-states : is_block w.settings ≡ true → length w.states ≢ 580 → Err (no_bank 1) ≡ fit_of w
+  unfolding fit_of
+  no-states s t = rw (s, ne_eqb _ _ t)
+
+  pub no-marks : is_block w.settings ≡ true → length w.states ≡ 580 → length w.marks ≢ 900 → Err (no_bank 2) ≡ fit_of w
+  unfolding fit_of
+  no-marks s t m = rw (s, eq-eqb _ _ t, ne_eqb _ _ m)
+
+  pub blocks-fit : is_block w.settings ≡ true → length w.states ≡ 580 → length w.marks ≡ 900 → Ok tt ≡ fit_of w
+  unfolding fit_of
+  blocks-fit s t m = rw (s, eq-eqb _ _ t, eq-eqb _ _ m)

@@ -1,26 +1,34 @@
 // Whether the lent blocks hold a bank.
-ghost use Rattle.std.specs.Prelude.{◌≡◌};
-ghost use Rattle.bank.specs.Lent.{Words};
-ghost use Rattle.bank.specs.Internal.Words.{fit_of};
+ghost use Rattle.std.specs.Prelude.{◌≡◌, IfOk};
+ghost use Rattle.settings.specs.Internal.Replies.{reply_of};
+ghost use Rattle.bank.specs.Internal.Words.{words_in, fit_of};
+ghost use Rattle.bank.specs.Internal.Blocks.{words_of};
 
-use layout::block::is_block;
-use layout::sizes::{MARKS_WORDS, STATES_WORDS};
-use settings::refusals::{Reason, Refusal};
+use crate::blocks::Blocks;
+use layout::block::{Block, block_in};
+use settings::refusals::Refusal;
 
 // Looks at the three lengths and the layout word, and names the block that is not a bank's.
-pub fn fit(settings: &[u64], states: &[u64], marks: &[u64]) -> Result<(), Refusal>
-    ensures { result ≡ fit_of (record { settings = settings.now; states = states.now; marks = marks.now }) }
+pub fn fit<'a>(
+    settings: &'a [u64],
+    states: &'a [u64],
+    marks: &'a [u64],
+) -> Result<Blocks<'a>, Refusal>
+    ensures reply { reply_of result ≡ fit_of (words_in settings.now states.now marks.now) }
+    ensures blocks { IfOk result (λ blocks. words_of blocks ≡ words_in settings.now states.now marks.now) }
 {
-    let known = is_block(settings);
-    let is_other = !known;
-    if is_other {
-        return Err(Reason::NoBank.at(0));
-    }
-    if states.len() != STATES_WORDS {
-        return Err(Reason::NoBank.at(1));
-    }
-    if marks.len() != MARKS_WORDS {
-        return Err(Reason::NoBank.at(2));
-    }
-    Ok(())
+    let Some(settings) = block_in(settings) else {
+        return Err(Block::Settings.missing());
+    };
+    let Some(states) = states.as_array() else {
+        return Err(Block::States.missing());
+    };
+    let Some(marks) = marks.as_array() else {
+        return Err(Block::Marks.missing());
+    };
+    Ok(Blocks {
+        settings,
+        states,
+        marks,
+    })
 }

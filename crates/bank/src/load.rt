@@ -1,26 +1,25 @@
 // A bank made of a settings image, in words that a caller lends.
-ghost use Rattle.std.specs.Prelude.{◌≡◌, length, replicate};
-ghost use Rattle.layout.specs.Internal.Sizes.{marks_size, settings_size, states_size};
+ghost use Rattle.std.specs.Prelude.{◌≡◌, replicate};
+ghost use Rattle.layout.specs.Internal.Sizes.{marks_size, states_size};
 ghost use Rattle.layout.specs.Internal.Block.{settings_words};
 ghost use Rattle.settings.specs.Internal.Replies.{reply_of};
 ghost use Rattle.reader.specs.Read.{read_of, settings_of};
 ghost use Rattle.bank.specs.Internal.Words.{words_in};
 ghost use Rattle.bank.specs.Internal.Load.{load_reply, load_words};
 
-use layout::block::{clear, put_settings};
+use layout::block::{Block, clear, put_settings};
 use layout::sizes::{MARKS_WORDS, SETTINGS_WORDS, STATES_WORDS};
 use reader::read::read;
-use settings::refusals::{Reason, Refusal};
+use settings::refusals::Refusal;
 use settings::types::no_alarms;
 
-// Writes the three blocks, which have the right lengths; of a refused image, a bank without alarms.
+// Writes the three blocks; of a refused image, a bank without alarms.
 fn load_blocks(
     image: &[u8],
-    settings: &mut [u64],
-    states: &mut [u64],
-    marks: &mut [u64],
+    settings: &mut [u64; SETTINGS_WORDS],
+    states: &mut [u64; STATES_WORDS],
+    marks: &mut [u64; MARKS_WORDS],
 ) -> Result<(), Refusal>
-    requires { (length settings.old ≡ settings_size) × (length states.old ≡ states_size) × (length marks.old ≡ marks_size) }
     ensures value { result ≡ reply_of (read_of image.now) }
     ensures settings_after { settings.new ≡ settings_words (settings_of image.now) }
     ensures states_after { states.new ≡ replicate states_size 0 }
@@ -47,14 +46,14 @@ pub fn load(
         image.now).states }
     ensures marks_after { marks.new ≡ (load_words (words_in settings.old states.old marks.old) image.now).marks }
 {
-    if settings.len() != SETTINGS_WORDS {
-        return Err(Reason::NoBank.at(0));
-    }
-    if states.len() != STATES_WORDS {
-        return Err(Reason::NoBank.at(1));
-    }
-    if marks.len() != MARKS_WORDS {
-        return Err(Reason::NoBank.at(2));
-    }
+    let Some(settings) = settings.as_mut_array() else {
+        return Err(Block::Settings.missing());
+    };
+    let Some(states) = states.as_mut_array() else {
+        return Err(Block::States.missing());
+    };
+    let Some(marks) = marks.as_mut_array() else {
+        return Err(Block::Marks.missing());
+    };
     load_blocks(image, settings, states, marks)
 }

@@ -3,10 +3,13 @@ ghost use Rattle.std.specs.Prelude.{◌≡◌};
 ghost use Rattle.history.specs.Internal.Condition.{count_up, count_after};
 ghost use Rattle.condition.specs.Internal.Mark.{ack_stamp_after};
 
+// The highest count.
+const MOST_COUNT: u64 = 2_147_483_647;
+
 fn count_up(n: u64) -> u64
     ensures { result ≡ count_up n }
 {
-    if n < 2_147_483_647 { n + 1 } else { n }
+    if n < MOST_COUNT { n + 1 } else { n }
 }
 
 // A count reset comes first, then the activation.

@@ -7,9 +7,9 @@ use wire::bits::{is_set, word_of};
 use wire::choice::choose;
 
 // Of a condition's digit.
-const ALARM: u32 = 1;
+pub const ALARM: u32 = 1;
 
-const UNACKED: u32 = 2;
+pub const UNACKED: u32 = 2;
 
 // One scan of one condition. Of `digit`, bit 0 is in alarm and bit 1 unacknowledged. The result has these two anew, bit 2
 // for the row of scans that met it, and bits 3 to 5 for acknowledged, returned and activated.

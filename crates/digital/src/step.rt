@@ -1,6 +1,5 @@
 // One scan of a digital alarm.
-ghost use Rattle.std.specs.Prelude.{◌≡◌, cond, ◌+◌, ◌*◌, ◌/◌, ◌%◌, ◌≤◌, eqb, length, set};
-ghost use Rattle.std.proofs.lemmas.List.Edits.{sets};
+ghost use Rattle.std.specs.Prelude.{◌≡◌, ◌*◌, ◌/◌, ◌%◌, eqb, set};
 ghost use Rattle.settings.specs.declared.types.Form.{Form};
 ghost use Rattle.layout.specs.Internal.Words.{alarm_in};
 ghost use Rattle.state.specs.Internal.State.{state_in, state_words};
@@ -14,22 +13,22 @@ use condition::outcome::condition;
 use condition::row::lasted;
 use layout::half::{lower, pair, upper};
 use layout::read::{duration_in, flags_in};
+use layout::sizes::{ALARM_WORDS, STATE_USED};
 use level::level::is_bit;
 use settings::types::Reading;
-use state::offsets::STARTS;
+use state::offsets::{FLAGS, STARTS};
 use wire::bits::is_set;
 use wire::choice::choose;
 use wire::places::{ACK_REQUIRED, CONDITION, CONDITIONS, HH, HH_ROW, HH_UNACKED, LATCHED};
 
 // Stores flags and command word, and the start of the row where it begins.
-fn keep(states: &mut [u64], at: usize, first: u64, begins: bool, time: u64)
-    requires { at + 11 ≤ length states.old }
-    ensures { states.new ≡ set (keep_start begins time (at + 5) states.old) at first }
+fn keep(state: &mut [u64; STATE_USED], first: u64, begins: bool, time: u64)
+    ensures { state.new ≡ set (keep_start begins time 5 state.old) 0 first }
 {
     if begins {
-        states[at + STARTS] = time;
+        state[STARTS] = time;
     }
-    states[at] = first;
+    state[FLAGS] = first;
 }
 
 // Of the first word, whose lower half are the flags and whose upper half is the last command word: in alarm, and its row goes on.
@@ -50,35 +49,31 @@ fn rests(first: u64, met: bool) -> bool
     }
 }
 
-// Steps the alarm whose settings begin at `from` and whose words begin at `at`, and answers its events.
+// Steps an alarm with its reading, and answers its events.
 pub fn digital_step(
-    settings: &[u64],
-    from: usize,
-    states: &mut [u64],
-    at: usize,
+    settings: &[u64; ALARM_WORDS],
+    state: &mut [u64; STATE_USED],
     reading: Reading,
     word: u32,
     time: u64,
 ) -> u32
-    requires { (from + 8 ≤ length settings.now) × (at + 11 ≤ length states.old) }
-    ensures value { result ≡ (digital_step (alarm_in Form.Digital settings.now from) (state_in states.old at) reading word time).events }
-    ensures states_after { states.new ≡ sets states.old at
-        (state_words (digital_step (alarm_in Form.Digital settings.now from) (state_in states.old at) reading word time).state) }
+    ensures value { result ≡ (digital_step (alarm_in Form.Digital settings.now 0) (state_in state.old 0) reading word time).events }
+    ensures state_after { state.new ≡ state_words (digital_step (alarm_in Form.Digital settings.now 0) (state_in state.old 0) reading word time).state }
 {
-    let first = states[at];
-    let set = u32::from(flags_in(settings, from));
+    let first = state[FLAGS];
+    let set = u32::from(flags_in(settings));
     let met = is_bit(is_set(set, CONDITION), reading);
     if (word == 0) & rests(first, met) {
         return 0;
     }
-    let begun = states[at + STARTS];
+    let begun = state[STARTS];
     let flags = lower(first);
     let previous = upper(first);
     let m = modes(flags, word, previous);
     let enabled = is_enabled(m);
     let frees = !is_set(set, LATCHED) | resets_one(word, previous);
     let on = is_set(flags, HH_ROW);
-    let ready = lasted(choose(on, begun, time), duration_in(settings, from), time);
+    let ready = lasted(choose(on, begun, time), duration_in(settings), time);
     let ack = acks_all(word, previous);
     let c = condition(
         flags / HH,
@@ -90,6 +85,6 @@ pub fn digital_step(
         is_set(set, ACK_REQUIRED),
     );
     let kept = pair(m % 8 + CONDITIONS * (c % 8), word);
-    keep(states, at, kept, (enabled & met) & !on, time);
+    keep(state, kept, (enabled & met) & !on, time);
     m / 8 + CONDITIONS * (c / 8)
 }

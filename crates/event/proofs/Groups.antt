@@ -135,7 +135,7 @@ module _ (s : Source) where
   left_next place rest h =
       let n : 3 * (6 - place) ≡ 3 + 3 * (6 - (place + 1)) = omega arith in
       let k : condition_bit place 0 + 3 ≡ condition_bit (place + 1) 0 = omega arith in
-      rw n (split-log s.number (kind_in s.form s.settings.now s.from) s.suppressed s.time 3 (3 * (6 - (place + 1))) (condition_bit place 0) rest ∙ rw k)
+      rw n (split-log s.number (kind_in s.form s.settings.now 0) s.suppressed s.time 3 (3 * (6 - (place + 1))) (condition_bit place 0) rest ∙ rw k)
 
   pub length-next : (place rest : ℕ) → place < 6 → length (left place rest) ≡ length (log_at place rest) + length (left (place + 1) (rest / 8))
   length-next place rest h = ap length (left_next place rest h) ∙ length-append (log_at place rest) (left (place + 1) (rest / 8))
@@ -148,7 +148,7 @@ module _ (s : Source) where
   -- no bits are left
   pub none-left : (place rest : ℕ) → rest ≡ 0 → left place rest ≡ []
   unfolding log_bytes
-  none-left place rest e = rw (e, no-events s.number (kind_in s.form s.settings.now s.from) s.suppressed s.time (3 * (6 - place)) (condition_bit place 0))
+  none-left place rest e = rw (e, no-events s.number (kind_in s.form s.settings.now 0) s.suppressed s.time (3 * (6 - place)) (condition_bit place 0))
 
   -- every place is passed
   pub none-behind : (place rest : ℕ) → 6 ≤ place → left place rest ≡ []
@@ -165,8 +165,8 @@ module _ (s : Source) where
 
     parts : source_log s word_bits 0 word ≡ whole ++ rest
     parts =
-        split-log s.number (kind_in s.form s.settings.now s.from) s.suppressed s.time first_condition 18 0 word
-        ∙ rw (whole-log s.number (kind_in s.form s.settings.now s.from) s.suppressed s.time word small)
+        split-log s.number (kind_in s.form s.settings.now 0) s.suppressed s.time first_condition 18 0 word
+        ∙ rw (whole-log s.number (kind_in s.form s.settings.now 0) s.suppressed s.time word small)
 
     pub parts-length : length (source_log s word_bits 0 word) ≡ length whole + length rest
     parts-length = ap length parts ∙ length-append whole rest

@@ -26,12 +26,12 @@ pub fn condition_at(form: Form, place: usize) -> u8
 // The severity that is stored for a condition. Those of an analog alarm stand two a word.
 pub fn severity_at(source: &Source<'_>, place: usize) -> u32
     requires { place < 6 }
-    ensures { result ≡ stored_severity (kind_in source.now.form source.now.settings.now source.now.from) (condition_of source.now.form place) }
+    ensures { result ≡ stored_severity (kind_in source.now.form source.now.settings.now 0) (condition_of source.now.form place) }
 {
     match source.form {
-        Form::Digital => severity_in(source.settings, source.from),
+        Form::Digital => severity_in(source.settings),
         Form::Analog => {
-            let pair = source.settings[source.from + SEVERITIES + place / 2];
+            let pair = source.settings[SEVERITIES + place / 2];
             if place % 2 == 0 {
                 lower(pair)
             } else {

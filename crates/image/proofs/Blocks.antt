@@ -6,6 +6,7 @@ use native.Mathlib.Omega.{arith}
 use borrow.Author.Tests.{lt-ltb, le-ltb}
 use lib.ListN.{length, get_or, take}
 use lib.Seq.{slice, length-slice, get_or-take, get_or-drop, ext_get_or}
+use Rattle.wire.specs.Number.{part}
 use Rattle.settings.specs.Counts.{form_at}
 use Rattle.settings.specs.Alarm.{blank, blanks}
 use Rattle.settings.specs.declared.types.Alarm.{Alarm}
@@ -14,7 +15,7 @@ use Rattle.settings.specs.declared.types.Form.TheVariants.{Digital as DigitalFor
 use Rattle.layout.specs.Internal.Words.{alarm_in, form_of}
 use Rattle.layout.specs.Internal.Block.{alarm_at, alarm_on, counts_in, count_in, settings_in}
 use Rattle.layout.proofs.Back.{long-blanks}
-use Rattle.layout.proofs.Laws.{length-placed, placed_below}
+use Rattle.layout.proofs.Laws.{alarm-cut, length-placed, placed_below}
 use Rattle.image.specs.Internal.Write.{record_bytes, records_bytes, section_bytes, read_as}
 use Rattle.image.proofs.Images.{digital_section, analog_section}
 
@@ -32,10 +33,11 @@ unfolding alarm_in
 form-read DigitalForm ws at = refl
 form-read AnalogForm ws at = refl
 
--- so its record is that of the section
-pub record-read : (form : Form) (ws : List ℕ) (p : ℕ) {alarm : Alarm} → p < 24 → alarm ≡ alarm_in form ws (alarm_at p)
-    → record_bytes (form_of alarm.kind) alarm ≡ record_bytes form (get_or (read_as form ws) p blank)
-record-read form ws p h e =
+-- so the record of an alarm that was read off its own words is that of the section
+pub record-read : (form : Form) (ws : List ℕ) (p : ℕ) {alarm : Alarm} {words : List ℕ} → p < 24 → alarm ≡ alarm_in form words 0
+    → words ≡ part ws (alarm_at p) 8 → record_bytes (form_of alarm.kind) alarm ≡ record_bytes form (get_or (read_as form ws) p blank)
+record-read form ws p h a w =
+    let e = a ∙ ap (λ (l : List ℕ). alarm_in form l 0) w ∙ alarm-cut form ws (alarm_at p) in
     (λ i. record_bytes (form_of (e i).kind) (e i))
     ∙ ap (λ (f : Form). record_bytes f (alarm_in form ws (alarm_at p))) (form-read form ws (alarm_at p))
     ∙ ap (record_bytes form) (sym (read_at form ws p h))

@@ -2,7 +2,6 @@
 ghost use Rattle.std.specs.Prelude.{◌≡◌, ◌+◌, ◌*◌, ◌≤◌, ◌<◌, length};
 ghost use Rattle.std.proofs.lemmas.List.Edits.{sets};
 ghost use Rattle.std.proofs.Math.Seq.{slice};
-ghost use Rattle.layout.specs.Internal.Sizes.{settings_size};
 ghost use Rattle.settings.specs.Counts.{all_most};
 ghost use Rattle.settings.specs.Internal.Few.{Few};
 ghost use Rattle.wire.specs.Internal.Words.{words};
@@ -12,9 +11,10 @@ ghost use Rattle.image.specs.Internal.Write.{size_of_image, has_room, written_of
 ghost use Rattle.layout.specs.Internal.Words.{form_of};
 ghost use Rattle.layout.specs.Internal.Block.{settings_in};
 
-use layout::block::{counts_in, is_block};
+use layout::block::{Block, block_in, counts_in};
+use layout::place::Place;
 use layout::read::alarm_in;
-use layout::sizes::{ALARM_WORDS, SETTINGS_HEAD};
+use layout::sizes::SETTINGS_WORDS;
 use settings::counts::{Counts, MOST, are_good, sum_of};
 use settings::refusals::{Reason, Refusal};
 use settings::types::{Alarm, Form, Kind, Limits, Severities};
@@ -115,16 +115,16 @@ fn put_records(
     form: Form,
     first: usize,
     end: usize,
-    words: &[u64],
+    words: &[u64; SETTINGS_WORDS],
 ) -> usize
-    requires end_le_all_most { (end ≤ all_most) × (length words.now ≡ settings_size) }
+    requires end_le_all_most { end ≤ all_most }
     requires room { start + length (records_bytes form (slice first end (read_as form words.now))) ≤ length out.old }
     ensures value { result ≡ start + length (records_bytes form (slice first end (read_as form words.now))) }
     ensures out_after { out.new ≡ sets out.old start (records_bytes form (slice first end (read_as form words.now))) }
 {
     let mut at = start;
-    for place in first..end {
-        let alarm = alarm_in(words, SETTINGS_HEAD + ALARM_WORDS * place, form);
+    for index in first..end {
+        let alarm = alarm_in(Place { index }.settings_in(words), form);
         at = put_record(out, at, alarm);
     }
     at
@@ -136,9 +136,9 @@ fn put_section(
     form: Form,
     first: usize,
     count: usize,
-    words: &[u64],
+    words: &[u64; SETTINGS_WORDS],
 ) -> usize
-    requires sizes { (first ≤ 12) × (count ≤ 12) × (length words.now ≡ settings_size) }
+    requires few { (first ≤ 12) × (count ≤ 12) }
     requires room { at + length (section_bytes form first count (read_as form words.now)) ≤ length out.old }
     ensures value { result ≡ at + length (section_bytes form first count (read_as form words.now)) }
     ensures out_after { out.new ≡ sets out.old at (section_bytes form first count (read_as form words.now)) }
@@ -167,8 +167,7 @@ fn has_room(counts: Counts, len: usize) -> bool
 }
 
 // Writes the image of the settings in a block.
-fn write_block(words: &[u64], out: &mut [u8]) -> Result<usize, Refusal>
-    requires { length words.now ≡ settings_size }
+fn write_block(words: &[u64; SETTINGS_WORDS], out: &mut [u8]) -> Result<usize, Refusal>
     ensures value { result ≡ written_of (settings_in words.now) (length out.old) }
     ensures out_after { out.new ≡ image_buffer (settings_in words.now) out.old }
 {
@@ -193,8 +192,8 @@ pub fn write(words: &[u64], out: &mut [u8]) -> Result<usize, Refusal>
     ensures value { result ≡ write_of words.now (length out.old) }
     ensures out_after { out.new ≡ write_buffer words.now out.old }
 {
-    if !is_block(words) {
-        return Err(Reason::NoBank.at(0));
+    match block_in(words) {
+        Some(block) => write_block(block, out),
+        None => Err(Block::Settings.missing()),
     }
-    write_block(words, out)
 }

@@ -1,12 +1,14 @@
 -- What is read after stores: elsewhere as before, and in their place what was stored. Lengths are kept. Assumes nothing.
-use mathlib.Core.List.{List, [], ◌∷◌}
-use mathlib.Core.Path.{◌≡◌, refl, ap, ◌∙◌}
+use mathlib.Core.List.{List, [], ◌∷◌, ◌++◌, append-nil}
+use mathlib.Core.Path.{◌≡◌, refl, sym, ap, ◌∙◌}
 use Prim.Native.Nat.{ℕ, zero, suc, ◌+◌, ◌*◌, ◌≤◌, ◌<◌}
 use native.Mathlib.Nat.{add-zero, zero-add}
 use native.Mathlib.Numerals.{add-one}
 use native.Mathlib.Omega.{arith}
-use lib.ListN.{length, get_or, set, length-set, length-append, length-replicate, replicate}
-use lib.Seq.{sets, length-sets, get_or-set_same, get_or-set_other}
+use lib.ListN.{length, get_or, set, take, drop, drop_of_length-le, length-set, length-append, length-replicate, replicate}
+use Rattle.std.proofs.lemmas.List.{append_assoc}
+use lib.Seq.{sets, sets-eq, length-sets, drop-drop, get_or-take, get_or-drop, get_or-set_same, get_or-set_other}
+use Rattle.wire.specs.Number.{part}
 use Rattle.wire.proofs.Laws.{below}
 use Rattle.settings.specs.declared.types.Alarm.{Alarm}
 use Rattle.settings.specs.declared.types.Kind.{Kind}
@@ -81,6 +83,34 @@ alarm-set-below form ws i v at h = alarm-below form ws i (v ∷ []) at h
 pub alarm-stored : (form : Form) (ws : List ℕ) (at : ℕ) (vs : List ℕ) → at + 8 ≤ length ws → length vs ≡ 8 → alarm_in form (sets ws at vs) at ≡ alarm_in form vs 0
 alarm-stored form ws at vs h n =
     alarm-same vs (sets ws at vs) 0 at (λ k m. get_or-stored ws at vs k 0 (omega arith) (omega arith) ∙ rw zero-add) form
+
+-- ---- some words of a block
+
+-- a word of the n words from an offset on
+pub get_or-part : (ws : List ℕ) (at n k d : ℕ) → k < n → get_or (part ws at n) k d ≡ get_or ws (at + k) d
+get_or-part ws at n k d h = get_or-take n (drop at ws) k d h ∙ get_or-drop at ws k d
+
+-- an alarm's eight words, cut out, say the alarm
+pub alarm-cut : (form : Form) (ws : List ℕ) (at : ℕ) → alarm_in form (part ws at 8) 0 ≡ alarm_in form ws at
+alarm-cut form ws at = alarm-same ws (part ws at 8) at 0 (λ k m. get_or-part ws at 8 (0 + k) 0 (omega arith) ∙ rw zero-add) form
+
+-- words that were cut out, and written anew
+pub part-written : (ws vs : List ℕ) (at n : ℕ) → at + n ≤ length ws → length vs ≡ n → take at ws ++ (vs ++ drop n (drop at ws)) ≡ sets ws at vs
+part-written ws vs at n h e =
+    let fits : at + length vs ≤ length ws = omega (arith, e) in
+    ap (λ (l : List ℕ). take at ws ++ (vs ++ l)) (drop-drop n at ws ∙ ap (λ (k : ℕ). drop (at + k) ws) (sym e))
+    ∙ sym (append_assoc (take at ws) vs (drop (at + length vs) ws)) ∙ sym (sets-eq vs ws at fits)
+
+-- the same from what the code has at hand
+pub part-put : (ws vs : List ℕ) (at n : ℕ) {front behind new : List ℕ} → at + n ≤ length ws → length vs ≡ n → front ≡ take at ws → behind ≡ drop at ws
+    → new ≡ vs → front ++ (new ++ drop n behind) ≡ sets ws at vs
+part-put ws vs at n h e f b v = (λ i. f i ++ (v i ++ drop n (b i))) ∙ part-written ws vs at n h e
+
+-- written over as many words they are all there is
+pub sets-whole : (ws vs : List ℕ) → length ws ≡ length vs → sets ws 0 vs ≡ vs
+sets-whole ws vs h =
+    let rest : drop (0 + length vs) ws ≡ [] = drop_of_length-le ws (omega (arith, h)) in
+    sets-eq vs ws 0 (omega (arith, h)) ∙ ap (λ (l : List ℕ). vs ++ l) rest ∙ append-nil vs
 
 -- ---- how long they are
 

@@ -3,6 +3,7 @@
 
 pub mod block;
 pub mod half;
+pub mod place;
 pub mod put;
 pub mod read;
 pub mod sizes;

@@ -1,6 +1,5 @@
-// An alarm's settings as its 8 words, and these written at a place.
-ghost use Rattle.std.specs.Prelude.{◌≡◌, ◌+◌, ◌≤◌, length};
-ghost use Rattle.std.proofs.lemmas.List.Edits.{sets};
+// An alarm's settings as its 8 words.
+ghost use Rattle.std.specs.Prelude.{◌≡◌};
 ghost use Rattle.settings.specs.declared.types.Form.{Form};
 ghost use Rattle.layout.specs.Internal.Words.{digital_of, analog_of, digital_words, analog_words, alarm_words, alarm_in, form_of};
 
@@ -40,7 +39,7 @@ fn analog_words(
 }
 
 // The 8 words of an alarm, which say the alarm again.
-fn alarm_words(alarm: Alarm) -> [u64; ALARM_WORDS]
+pub fn alarm_words(alarm: Alarm) -> [u64; ALARM_WORDS]
     ensures words_are { result ≡ alarm_words alarm }
     ensures read_back { alarm_in (form_of alarm.kind) result 0 ≡ alarm }
 {
@@ -52,13 +51,4 @@ fn alarm_words(alarm: Alarm) -> [u64; ALARM_WORDS]
             period,
         } => analog_words(alarm.flags, alarm.duration, limits, severities, period),
     }
-}
-
-// Writes the 8 words of an alarm, which say the alarm again.
-pub fn put_alarm(words: &mut [u64], at: usize, alarm: Alarm)
-    requires { at + 8 ≤ length words.old }
-    ensures words_after { words.new ≡ sets words.old at (alarm_words alarm) }
-    ensures read_back { alarm_in (form_of alarm.kind) words.new at ≡ alarm }
-{
-    words[at..at + ALARM_WORDS].copy_from_slice(&alarm_words(alarm));
 }

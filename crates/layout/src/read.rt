@@ -1,40 +1,36 @@
-// An alarm's settings, read from its 8 words: single numbers, for a step that needs no struct, and the whole. Each asks for the
-// same 8 words by their offset: a slice of them would cost a step the cut, and a proof the way back to the block.
-ghost use Rattle.std.specs.Prelude.{◌≡◌, ◌+◌, ◌≤◌, length};
+// An alarm's settings, read from its 8 words: single numbers, for a step that needs no struct, and the whole.
+ghost use Rattle.std.specs.Prelude.{◌≡◌};
 ghost use Rattle.layout.specs.Internal.Words.{flags_in, duration_in, period_in, limits_in, severity_in, severities_in, kind_in, alarm_in};
 
 use crate::half::{lower, lower_real, lowest, upper, upper_real};
+use crate::sizes::ALARM_WORDS;
 use settings::types::{Alarm, Form, Kind, Limits, Severities};
 
-pub fn flags_in(words: &[u64], at: usize) -> u8
-    requires { at + 8 ≤ length words.now }
-    ensures { result ≡ flags_in words.now at }
+pub fn flags_in(words: &[u64; ALARM_WORDS]) -> u8
+    ensures { result ≡ flags_in words.now 0 }
 {
-    lowest(words[at])
+    lowest(words[0])
 }
 
-pub fn duration_in(words: &[u64], at: usize) -> u32
-    requires { at + 8 ≤ length words.now }
-    ensures { result ≡ duration_in words.now at }
+pub fn duration_in(words: &[u64; ALARM_WORDS]) -> u32
+    ensures { result ≡ duration_in words.now 0 }
 {
-    upper(words[at])
+    upper(words[0])
 }
 
-pub fn period_in(words: &[u64], at: usize) -> u32
-    requires { at + 8 ≤ length words.now }
-    ensures { result ≡ period_in words.now at }
+pub fn period_in(words: &[u64; ALARM_WORDS]) -> u32
+    ensures { result ≡ period_in words.now 0 }
 {
-    upper(words[at + 4])
+    upper(words[4])
 }
 
 // The seven REALs, in pairs.
-pub fn limits_in(words: &[u64], at: usize) -> Limits
-    requires { at + 8 ≤ length words.now }
-    ensures { result ≡ limits_in words.now at }
+pub fn limits_in(words: &[u64; ALARM_WORDS]) -> Limits
+    ensures { result ≡ limits_in words.now 0 }
 {
-    let highs = words[at + 1];
-    let lows = words[at + 2];
-    let bands = words[at + 3];
+    let highs = words[1];
+    let lows = words[2];
+    let bands = words[3];
     Limits {
         hh: lower_real(highs),
         h: upper_real(highs),
@@ -42,26 +38,24 @@ pub fn limits_in(words: &[u64], at: usize) -> Limits
         ll: upper_real(lows),
         deadband: lower_real(bands),
         rocpos: upper_real(bands),
-        rocneg: lower_real(words[at + 4]),
+        rocneg: lower_real(words[4]),
     }
 }
 
 // The severity of a digital alarm.
-pub fn severity_in(words: &[u64], at: usize) -> u32
-    requires { at + 8 ≤ length words.now }
-    ensures { result ≡ severity_in words.now at }
+pub fn severity_in(words: &[u64; ALARM_WORDS]) -> u32
+    ensures { result ≡ severity_in words.now 0 }
 {
-    lower(words[at + 5])
+    lower(words[5])
 }
 
 // The severities of an analog alarm.
-pub fn severities_in(words: &[u64], at: usize) -> Severities
-    requires { at + 8 ≤ length words.now }
-    ensures { result ≡ severities_in words.now at }
+pub fn severities_in(words: &[u64; ALARM_WORDS]) -> Severities
+    ensures { result ≡ severities_in words.now 0 }
 {
-    let a = words[at + 5];
-    let b = words[at + 6];
-    let c = words[at + 7];
+    let a = words[5];
+    let b = words[6];
+    let c = words[7];
     Severities {
         hh: lower(a),
         h: upper(a),
@@ -72,29 +66,27 @@ pub fn severities_in(words: &[u64], at: usize) -> Severities
     }
 }
 
-fn kind_in(words: &[u64], at: usize, form: Form) -> Kind
-    requires { at + 8 ≤ length words.now }
-    ensures { result ≡ kind_in form words.now at }
+fn kind_in(words: &[u64; ALARM_WORDS], form: Form) -> Kind
+    ensures { result ≡ kind_in form words.now 0 }
 {
     match form {
         Form::Digital => Kind::Digital {
-            severity: severity_in(words, at),
+            severity: severity_in(words),
         },
         Form::Analog => Kind::Analog {
-            limits: limits_in(words, at),
-            severities: severities_in(words, at),
-            period: period_in(words, at),
+            limits: limits_in(words),
+            severities: severities_in(words),
+            period: period_in(words),
         },
     }
 }
 
-pub fn alarm_in(words: &[u64], at: usize, form: Form) -> Alarm
-    requires { at + 8 ≤ length words.now }
-    ensures { result ≡ alarm_in form words.now at }
+pub fn alarm_in(words: &[u64; ALARM_WORDS], form: Form) -> Alarm
+    ensures { result ≡ alarm_in form words.now 0 }
 {
     Alarm {
-        flags: flags_in(words, at),
-        duration: duration_in(words, at),
-        kind: kind_in(words, at, form),
+        flags: flags_in(words),
+        duration: duration_in(words),
+        kind: kind_in(words, form),
     }
 }

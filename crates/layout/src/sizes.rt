@@ -22,8 +22,13 @@ pub const LAYOUT_WORD: u64 = 0x4D45_4946_4755_5232;
 // In front of the states: the time of the last accepted scan, and room.
 pub const STATES_HEAD: usize = 4;
 
-// The words of an alarm's state: 11, and room for more.
+// Where the time stands there.
+pub const LAST_TIME: usize = 0;
+
+// The words of an alarm's state, and how many of them are used; the rest is room for more.
 pub const STATE_WORDS: usize = 16;
+
+pub const STATE_USED: usize = 11;
 
 pub const STATES_WORDS: usize = STATES_HEAD + STATE_WORDS * PLACES;
 

@@ -5,3 +5,4 @@ pub mod Runs
 pub mod Still
 pub mod Stores
 pub mod Turns
+pub mod Parts

@@ -1,76 +1,79 @@
 // The words of an alarm: its count reset stamp, then those of its conditions.
-ghost use Rattle.std.specs.Prelude.{◌≡◌, ◌+◌, ◌≤◌, length};
+ghost use Rattle.std.specs.Prelude.{◌≡◌};
 ghost use Rattle.settings.specs.Alarm.{ack_required};
 ghost use Rattle.layout.specs.Internal.Words.{alarm_in};
-ghost use Rattle.marks.specs.Internal.Marks.{mark_conditions, mark_alarm, starts_in};
+ghost use Rattle.marks.specs.Internal.Marks.{mark_conditions, mark_alarm};
 
-use crate::words::{CONDITION_WORDS, mark_turn};
+use crate::words::{CONDITION_WORDS, Change, mark_condition};
 use layout::read::flags_in;
+use layout::sizes::{ALARM_WORDS, MARK_WORDS};
 use settings::types::Form;
+use wire::bits::is_set;
 use wire::choice::choose;
-use wire::places::{CONDITIONS, COUNT_RESET};
+use wire::places::{ACK_REQUIRED, ANALOG_ACK_REQUIRED, CONDITIONS, COUNT_RESET};
+
+// Where the count reset stamp stands, and the words of the first condition.
+pub const RESET_STAMP: usize = 0;
+
+pub const FIRST_CONDITION: usize = 1;
+
+// The conditions that words are kept for.
+pub const MARKED: usize = 6;
 
 // AckRequired, from the alarm's settings.
-pub fn required_in(settings: &[u64], at: usize, form: Form) -> bool
-    requires { at + 8 ≤ length settings.now }
-    ensures { result ≡ ack_required (alarm_in form settings.now at).kind (alarm_in form settings.now at).flags }
+pub fn required_in(settings: &[u64; ALARM_WORDS], form: Form) -> bool
+    ensures { result ≡ ack_required (alarm_in form settings.now 0).kind (alarm_in form settings.now 0).flags }
 {
-    let flags = flags_in(settings, at);
+    let flags = u32::from(flags_in(settings));
     match form {
-        Form::Digital => flags / 2 % 2 == 1,
-        Form::Analog => flags / 16 % 2 == 1,
+        Form::Digital => is_set(flags, ACK_REQUIRED),
+        Form::Analog => is_set(flags, ANALOG_ACK_REQUIRED),
     }
 }
 
-// Marks what a scan did to the six conditions whose words begin at `base`. It ends once no events are left, unless the
-// counts are reset.
+// Marks what a scan did to the six conditions. It ends once no events are left, unless the counts are reset.
 fn mark_conditions(
-    marks: &mut [u64],
-    base: usize,
+    marks: &mut [u64; MARK_WORDS],
     required: bool,
-    states: &[u64],
-    from: usize,
+    starts: &[u64; MARKED],
     events: u32,
     time: u64,
 )
-    requires { (base + 24 ≤ length marks.old) × (from + 6 ≤ length states.now) }
-    ensures { marks.new ≡ mark_conditions required (starts_in states.now from) events time base 6 marks.old }
+    ensures { marks.new ≡ mark_conditions required starts.now events time 1 6 marks.old }
 {
-    let reset = events / COUNT_RESET % 2 == 1;
+    let reset = is_set(events, COUNT_RESET);
     let mut rest = events / CONDITIONS;
-    for place in 0..6 {
+    for place in 0..MARKED {
         if rest == 0 && !reset {
             return;
         }
-        mark_turn(
-            marks,
-            base + CONDITION_WORDS * place,
+        let (_, behind) = marks.split_at_mut(FIRST_CONDITION + CONDITION_WORDS * place);
+        let Some(words) = behind.first_chunk_mut() else {
+            unreachable!()
+        };
+        let change = Change {
             reset,
-            rest,
+            events: rest,
             required,
-            states,
-            from + place,
+            start: starts[place],
             time,
-        );
+        };
+        mark_condition(words, change);
         rest /= 8;
     }
 }
 
-// Marks what a scan did to the alarm whose words begin at `at`. Its conditions' starts after the scan stand in `states`
-// from `from` on.
+// Marks what a scan did to an alarm, from when the rows of its conditions began and its event word.
 pub fn mark_alarm(
-    marks: &mut [u64],
-    at: usize,
+    marks: &mut [u64; MARK_WORDS],
     required: bool,
-    states: &[u64],
-    from: usize,
+    starts: &[u64; MARKED],
     events: u32,
     time: u64,
 )
-    requires { (at + 25 ≤ length marks.old) × (from + 6 ≤ length states.now) }
-    ensures { marks.new ≡ mark_alarm required (starts_in states.now from) events time at marks.old }
+    ensures { marks.new ≡ mark_alarm required starts.now events time 0 marks.old }
 {
-    let reset = marks[at];
-    marks[at] = choose(events / COUNT_RESET % 2 == 1, time, reset);
-    mark_conditions(marks, at + 1, required, states, from, events, time);
+    let reset = is_set(events, COUNT_RESET);
+    marks[RESET_STAMP] = choose(reset, time, marks[RESET_STAMP]);
+    mark_conditions(marks, required, starts, events, time);
 }

@@ -1,57 +1,56 @@
 // The words of one condition: count, alarm stamp, ack stamp, return stamp.
-ghost use Rattle.std.specs.Prelude.{◌≡◌, ◌+◌, ◌≤◌, ◌<◌, length, get_or};
-ghost use Rattle.marks.specs.Internal.Marks.{mark_condition, turn_by};
+ghost use Rattle.std.specs.Prelude.{◌≡◌};
+ghost use Rattle.condition.specs.Internal.Mark.{marks_after};
+ghost use Rattle.marks.specs.Internal.Marks.{marks_at, marks_words, turn_by};
 
 use condition::mark::{ack_stamp, count_after};
+use wire::bits::is_set;
 use wire::choice::choose;
 
 // The words of a condition.
 pub const CONDITION_WORDS: usize = 4;
 
-// Marks what a scan did to the condition whose words begin at `at`: of `events`, bit 0 is acknowledged, 1 returned, 2
-// activated.
-fn mark_condition(
-    marks: &mut [u64],
-    at: usize,
-    reset: bool,
-    events: u32,
-    required: bool,
-    start: u64,
-    time: u64,
-)
-    requires { at + 4 ≤ length marks.old }
-    ensures { marks.new ≡ mark_condition (turn_by reset events required start time) at marks.old }
-{
-    let acknowledged = events % 2 == 1;
-    let returned = events / 2 % 2 == 1;
-    let activated = events / 4 % 2 == 1;
-    let count = marks[at];
-    let alarm = marks[at + 1];
-    let ack = marks[at + 2];
-    let back = marks[at + 3];
-    marks[at] = count_after(reset, activated, count);
-    marks[at + 1] = choose(activated, start, alarm);
-    marks[at + 2] = ack_stamp(acknowledged, activated, required, start, time, ack);
-    marks[at + 3] = choose(returned, time, back);
+// What a condition's three bits of an event word say, by what a one counts there.
+pub const ACKNOWLEDGED: u32 = 1;
+
+pub const RETURNED: u32 = 2;
+
+pub const ACTIVATED: u32 = 4;
+
+// What a scan did to a condition: whether it reset the counts, its events in the three lowest bits, AckRequired, when the row of scans that
+// met it began, and the scan's time.
+#[derive(Clone, Copy, Debug, PartialEq, Eq)]
+pub struct Change {
+    pub reset: bool,
+    pub events: u32,
+    pub required: bool,
+    pub start: u64,
+    pub time: u64,
 }
 
-// The same, from the word that has the start of the condition's row. Without events and a reset the words stay as they
-// are, and none is touched.
-pub fn mark_turn(
-    marks: &mut [u64],
-    at: usize,
-    reset: bool,
-    events: u32,
-    required: bool,
-    states: &[u64],
-    start: usize,
-    time: u64,
-)
-    requires { (at + 4 ≤ length marks.old) × (start < length states.now) }
-    ensures { marks.new ≡ mark_condition (turn_by reset events required (get_or states.now start 0) time) at marks.old }
+// Marks that in the condition's words. Without events and a reset they stay as they are, and none is touched.
+pub fn mark_condition(words: &mut [u64; CONDITION_WORDS], change: Change)
+    ensures { words.new ≡ marks_words (marks_after (turn_by change.reset change.events change.required change.start change.time)
+        (marks_at words.old 0)) }
 {
+    let Change {
+        reset,
+        events,
+        required,
+        start,
+        time,
+    } = change;
     if !reset & (events % 8 == 0) {
         return;
     }
-    mark_condition(marks, at, reset, events, required, states[start], time);
+    let acknowledged = is_set(events, ACKNOWLEDGED);
+    let returned = is_set(events, RETURNED);
+    let activated = is_set(events, ACTIVATED);
+    let [count, alarm, ack, back] = *words;
+    *words = [
+        count_after(reset, activated, count),
+        choose(activated, start, alarm),
+        ack_stamp(acknowledged, activated, required, start, time, ack),
+        choose(returned, time, back),
+    ];
 }

@@ -1,6 +1,5 @@
 // Scan records one after the other, on the words of one bank and one event buffer.
 ghost use Rattle.std.specs.Prelude.{◌≡◌, ◌+◌, ◌^◌, ◌≤◌, ◌<◌, length};
-ghost use Rattle.layout.specs.Internal.Sizes.{marks_size, settings_size, states_size};
 ghost use Rattle.bank.specs.Internal.Words.{words_in};
 ghost use Rattle.replay.specs.Replay.{none_yet, counted, replay_of, replayed_of, replayed_words, replayed_buffer};
 
@@ -55,7 +54,8 @@ pub fn count_answer(done: Tally, answer: Result<usize, Refusal>, index: usize) -
     }
 }
 
-// Runs each record of `bytes` as a scan of its own, and passes over those that are refused.
+// Runs each record of `bytes` as a scan of its own, and passes over those that are refused. The three blocks are handed on one by one: each
+// scan looks at them for itself.
 fn run(
     settings: &[u64],
     states: &mut [u64],
@@ -63,7 +63,6 @@ fn run(
     bytes: &[u8],
     out: &mut [u8],
 ) -> Tally
-    requires { (length settings.now ≡ settings_size) × (length states.old ≡ states_size) × (length marks.old ≡ marks_size) }
     ensures value { result ≡ (replay_of (words_in settings.now states.old marks.old) bytes.now
         out.old).tally }
     ensures states_after { states.new ≡ (replay_of (words_in settings.now states.old marks.old) bytes.now

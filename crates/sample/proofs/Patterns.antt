@@ -16,7 +16,7 @@ use lib.Ieee.Fits.{cond-fits, div-fits}
 use Rattle.wire.specs.Real.{zero_real}
 use Rattle.wire.proofs.Laws.{and-true}
 use Rattle.sample.specs.Internal.Sample.{stays_in, rate_in, sample_in, sampled_in}
-use Rattle.layout.proofs.Stay.{pair-back, copied, stay}
+use Rattle.layout.proofs.Stay.{pair-back}
 
 zero_pattern : to_bits binary32 zero_real ≡ 0
 unfolding of_bits is_nan
@@ -35,26 +35,25 @@ pub value-is : (stays : Bool) (p : ℕ) (x : Float)
 value-is true p x = refl
 value-is false p x = refl
 
-module _ (ws : List ℕ) (at flags period time : ℕ) (enabled : Bool) (x : Float) {stays : Bool} (e : stays ≡ stays_in flags period (get_or ws (at + 1) 0) time) where
+module _ (pair sampled flags period time : ℕ) (enabled : Bool) (x : Float) {stays : Bool} (e : stays ≡ stays_in flags period sampled time) where
   abbrev rate : ℕ
-  rate = rate_in flags enabled period (get_or ws at 0) (get_or ws (at + 1) 0) x time
+  rate = rate_in flags enabled period pair sampled x time
 
   -- a sample that stays in an enabled scan is stored as it is
   pub sample-stays : enabled && stays ≡ true
-      → (upper_of (get_or ws at 0) ≡ rate)
-      × (ws ≡ sets ws at (sample_in flags enabled period (get_or ws at 0) (get_or ws (at + 1) 0) x time ∷ sampled_in flags period (get_or ws (at + 1) 0) time ∷ []))
-  unfolding rate_in copied
+      → (pair ≡ sample_in flags enabled period pair sampled x time) × (upper_of pair ≡ rate) × (sampled ≡ sampled_in flags period sampled time)
+  unfolding rate_in
   sample-stays h =
-      let n : suc at ≡ at + 1 = omega arith in
       let on = and-true enabled stays h in
-      let kept : upper_of (get_or ws at 0) ≡ rate = rw (← e, on.0, on.1) in (
+      let kept : upper_of pair ≡ rate = rw (← e, on.0, on.1) in (
+        rw (← e, on.0, on.1, pair-back pair),
         kept,
-        sym (stay 2 ws ws at [] (λ k g. refl)) ∙ rw (← e, on.0, on.1, n, pair-back (get_or ws at 0)),
+        rw (← e, on.1),
       )
 
   -- otherwise the rate is a new one
   pub rate-changes : enabled && stays ≡ false
-      → cond (enabled && bit flags 3) (to_bits binary32 (new_rate period (of_bits binary32 (lower_of (get_or ws at 0))) x)) 0 ≡ rate
+      → cond (enabled && bit flags 3) (to_bits binary32 (new_rate period (of_bits binary32 (lower_of pair)) x)) 0 ≡ rate
   unfolding rate_in
   rate-changes h = rw (← e, h)
 

@@ -1,16 +1,14 @@
-// The rate sample: its value and its rate by their patterns, and its time.
-ghost use Rattle.std.specs.Prelude.{◌≡◌, cond, ◌&&◌, [], ◌∷◌, ◌+◌, ◌≤◌, length, get_or};
-ghost use Rattle.std.proofs.lemmas.List.Edits.{sets};
+// The rate sample.
+ghost use Rattle.std.specs.Prelude.{◌≡◌, cond, ◌&&◌};
 ghost use Rattle.std.specs.Float.{binary32};
 ghost use Rattle.std.specs.Float.Ieee.{of_bits, to_bits};
 ghost use Rattle.wire.specs.Bits.{bit};
 ghost use Rattle.wire.specs.Internal.Places.{sampled_flag};
-ghost use Rattle.layout.specs.Internal.Words.{lower_of};
+ghost use Rattle.layout.specs.Internal.Words.{lower_of, upper_of};
 ghost use Rattle.settings.specs.Numbers.{new_rate};
 ghost use Rattle.sample.specs.Internal.Sample.{stays_in, rate_in, sample_in, sampled_in};
 
-use condition::row::elapsed;
-use layout::half::{lower, pair, upper};
+use layout::half::{lower, pair};
 use level::rate::rate_pattern;
 use wire::bits::is_set;
 use wire::choice::choose;
@@ -21,7 +19,7 @@ use wire::real::to_pattern;
 fn stays_in(flags: u32, period: u32, sampled: u64, time: u64) -> bool
     ensures { result ≡ stays_in flags period sampled time }
 {
-    is_set(flags, SAMPLED) & (elapsed(sampled, time) < u64::from(period))
+    is_set(flags, SAMPLED) & (time.saturating_sub(sampled) < u64::from(period))
 }
 
 // The pattern of a rate that does not stay: from the stored value to a new one, or 0 where there is none.
@@ -34,31 +32,34 @@ fn new_rate(flags: u32, enabled: bool, period: u32, stored: u64, x: f32) -> u32
     0
 }
 
-// Stores the sample after a scan in the two words from `at` on, and answers the pattern of the rate. Most scans keep both.
+// The words of a rate sample: its value and the rate by their patterns, in the lower and the upper half of one, and its time.
+#[derive(Clone, Copy, Debug, PartialEq, Eq)]
+pub struct SampleWords {
+    pub pair: u64,
+    pub time: u64,
+}
+
+// The sample after a scan, with the rate. Most scans keep it.
 pub fn resample(
-    states: &mut [u64],
-    at: usize,
+    stored: SampleWords,
     flags: u32,
     enabled: bool,
     period: u32,
     x: f32,
     time: u64,
-) -> u32
-    requires { at + 2 ≤ length states.old }
-    ensures value { result ≡ rate_in flags enabled period (get_or states.old at 0) (get_or states.old (at + 1) 0) x time }
-    ensures states_after { states.new ≡ sets states.old at
-        (sample_in flags enabled period (get_or states.old at 0) (get_or states.old (at + 1) 0) x time
-        ∷ sampled_in flags period (get_or states.old (at + 1) 0) time ∷ []) }
+) -> SampleWords
+    ensures pair { result.pair ≡ sample_in flags enabled period stored.pair stored.time x time }
+    ensures rate { upper_of result.pair ≡ rate_in flags enabled period stored.pair stored.time x time }
+    ensures time { result.time ≡ sampled_in flags period stored.time time }
 {
-    let stored = states[at];
-    let sampled = states[at + 1];
-    let stays = stays_in(flags, period, sampled, time);
+    let stays = stays_in(flags, period, stored.time, time);
     if enabled & stays {
-        return upper(stored);
+        return stored;
     }
-    let rate = new_rate(flags, enabled, period, stored, x);
-    let value = choose(stays, lower(stored), to_pattern(x));
-    states[at] = pair(value, rate);
-    states[at + 1] = choose(stays, sampled, time);
-    rate
+    let rate = new_rate(flags, enabled, period, stored.pair, x);
+    let value = choose(stays, lower(stored.pair), to_pattern(x));
+    SampleWords {
+        pair: pair(value, rate),
+        time: choose(stays, stored.time, time),
+    }
 }

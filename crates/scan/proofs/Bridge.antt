@@ -14,12 +14,12 @@ use Rattle.wire.proofs.Laws.{below}
 use Rattle.std.proofs.Common.{Result, Ok}
 use Rattle.settings.specs.declared.refusals.Refusal.{Refusal}
 use Rattle.settings.specs.declared.counts.Counts.{Counts}
-use Rattle.layout.specs.Internal.Block.{placed, counts_in, count_in, alarm_on, settings_in}
+use Rattle.layout.specs.Internal.Block.{placed, counts_in, count_in, alarm_on, settings_in, state_at}
 use Rattle.scan_record.specs.Part.{time_of}
 use Rattle.scan_record.specs.Check.{check_from, check_record}
 use Rattle.scan_record.proofs.Entries.{PartRead, Whole, all_read, accepted-says}
 use Rattle.state.specs.Internal.Held.{fresh_state}
-use Rattle.state.specs.Internal.State.{State, Stepped, state_in, state_words, state_at}
+use Rattle.state.specs.Internal.State.{State, Stepped, state_in, state_words}
 use Rattle.state.proofs.Back.{put_back, state-above, state-below}
 use Rattle.marks.specs.Internal.Marks.{mark_alarms}
 use Rattle.sweep.specs.Internal.Sweep.{Ready, alarm_marks, place_step, alarm_events, step_on, events_on, stepped_from, marked_from, logged_from, words_after}

@@ -1,5 +1,5 @@
 -- The events of an accepted scan fit the buffer that it was lent, and a scan keeps the settings and every length. Assumes nothing.
-use mathlib.Core.Path.{◌≡◌, refl, ◌∙◌}
+use mathlib.Core.Path.{◌≡◌, refl, ap, ◌∙◌}
 use mathlib.Core.Bool.{Bool, true, false, cond}
 use mathlib.Core.List.{List, ◌++◌}
 use Prim.Native.Nat.{ℕ, ◌*◌, ◌≤◌}
@@ -20,7 +20,7 @@ use Rattle.bank.specs.Internal.Words.{on_reply, fit_of, bank_in}
 use Rattle.scan.specs.Internal.Scan.{if_accepted, check_of, events_in, bank_after, too_short, refused_scan, checked_scan, checked_buffer, scan_of, event_buffer}
 use Rattle.bank.specs.Lent.{Words}
 use Rattle.sweep.specs.Internal.Sweep.{stepped_from, words_after}
-use Rattle.scan.specs.Internal.Words.{answer_of, scanned_words, buffer_of}
+use Rattle.scan.specs.Internal.Words.{bank_answer, bank_words, answer_of, scanned_words, buffer_of}
 use Rattle.sweep.proofs.Loops.{stepped-length, marked-length}
 
 -- ---- on a bank
@@ -81,6 +81,39 @@ module _ (w : Words) (rec : List ℕ) where
       go : (x : Result (Unit {0}) Refusal) → length (on_reply x (event_buffer (bank_in w) rec out) (λ r. out)) ≡ length out
       go (Ok u) = bank-buffer (bank_in w) rec out
       go (Err r) = refl
+
+-- ---- a scan of words that are a bank's, and of others
+
+module _ (w : Words) (rec : List ℕ) (room : ℕ) (out : List ℕ) where
+  -- what is said and left, by whether the words are a bank's
+  abbrev answered : Result (Unit {0}) Refusal → Result ℕ Refusal
+  answered r = and_then r (λ _. (scan_of (bank_in w) rec room).answer)
+
+  abbrev buffered : Result (Unit {0}) Refusal → List ℕ
+  buffered r = on_reply r (event_buffer (bank_in w) rec out) (λ q. out)
+
+  pub record Scanned (answer : Result ℕ Refusal) (words : Words) (buffer : List ℕ) : Type 0 where
+    pub answer-is : answer ≡ answer_of w rec room
+    pub words-are : words ≡ scanned_words w rec room
+    pub buffer-is : buffer ≡ buffer_of w rec out
+
+  pub of-bank : Ok tt ≡ fit_of w → Scanned (bank_answer w rec room) (bank_words w rec room) (event_buffer (bank_in w) rec out)
+  unfolding bank_answer bank_words answer_of scanned_words buffer_of
+  of-bank f =
+      record {
+        answer-is = ap answered f;
+        words-are = ap (λ (r : Result ℕ Refusal). if_accepted r (words_after w rec) w) (ap answered f);
+        buffer-is = ap buffered f;
+      }
+
+  pub of-none : {r : Refusal} → Err r ≡ fit_of w → Scanned (Err r) w out
+  unfolding answer_of scanned_words buffer_of
+  of-none f =
+      record {
+        answer-is = ap answered f;
+        words-are = ap (λ (r : Result ℕ Refusal). if_accepted r (words_after w rec) w) (ap answered f);
+        buffer-is = ap buffered f;
+      }
 
 -- ---- words that differ in no setting and no length
 

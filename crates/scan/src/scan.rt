@@ -1,20 +1,23 @@
 // One scan of a bank, in place.
 ghost use Rattle.std.specs.Prelude.{◌≡◌, length};
-ghost use Rattle.layout.specs.Internal.Sizes.{marks_size, settings_size, states_size};
 ghost use Rattle.settings.specs.Internal.Few.{Few};
 ghost use Rattle.bank.specs.Internal.Words.{words_in, bank_in};
+ghost use Rattle.bank.specs.Internal.Blocks.{SameWords};
+ghost use Rattle.sweep.specs.Internal.Scan.{scan_words};
 ghost use Rattle.sweep.specs.Internal.Sweep.{Ready, most_bytes};
 ghost use Rattle.scan.specs.Internal.Scan.{event_buffer};
 ghost use Rattle.scan.specs.Internal.Words.{checked_answer, checked_words, checked_out, bank_answer, bank_words, answer_of, scanned_words, buffer_of};
 
-use bank::fit::fit;
+use bank::blocks::Kept;
 use event::write::EVENT_SIZE;
-use layout::block::counts_in;
-use layout::sizes::{MARKS_WORDS, STATES_WORDS};
+use layout::block::{Block, block_in, counts_in};
+use layout::sizes::{LAST_TIME, SETTINGS_WORDS};
 use scan_record::check::check_record;
 use settings::counts::{Counts, MOST, sum_of};
 use settings::refusals::{Reason, Refusal};
 use sweep::alarms::scan_alarms;
+use sweep::part::Scan;
+use wire::number::LittleEndian;
 
 // Bytes of events that an alarm has at most in a scan: 5 events of a digital one, 15 of an analog one.
 const DIGITAL_MOST: usize = 5 * EVENT_SIZE;
@@ -35,73 +38,64 @@ fn most_bytes(counts: Counts) -> usize
 // Runs a checked record where the buffer may be too short: on copies, with a buffer that suffices, and takes them over if it was
 // not. A refused scan writes nothing.
 fn scan_short(
-    settings: &[u64],
-    states: &mut [u64],
-    marks: &mut [u64],
-    bytes: &[u8],
+    scan: &Scan<'_>,
+    kept: &mut Kept<'_>,
     out: &mut [u8],
     counts: Counts,
 ) -> Result<usize, Refusal>
-    requires { Ready (words_in settings.now states.old marks.old) bytes.now counts }
-    ensures value { result ≡ checked_answer (words_in settings.now states.old marks.old) bytes.now
-        (length out.old) }
-    ensures states_after { states.new ≡ (checked_words (words_in settings.now states.old marks.old)
-        bytes.now (length out.old)).states }
-    ensures marks_after { marks.new ≡ (checked_words (words_in settings.now states.old marks.old)
-        bytes.now (length out.old)).marks }
-    ensures out_after { out.new ≡ checked_out (words_in settings.now states.old marks.old) bytes.now
-        out.old }
+    requires { Ready (scan_words scan.now kept.old) scan.now.bytes.now counts }
+    ensures value { result ≡ checked_answer (scan_words scan.now kept.old) scan.now.bytes.now (length out.old) }
+    ensures same { SameWords kept.old kept.new }
+    ensures states_after { kept.new.states.now ≡ (checked_words (scan_words scan.now kept.old) scan.now.bytes.now (length out.old)).states }
+    ensures marks_after { kept.new.marks.now ≡ (checked_words (scan_words scan.now kept.old) scan.now.bytes.now (length out.old)).marks }
+    ensures out_after { out.new ≡ checked_out (scan_words scan.now kept.old) scan.now.bytes.now out.old }
 {
-    let mut stepped = [0; STATES_WORDS];
-    stepped.copy_from_slice(states);
-    let mut marked = [0; MARKS_WORDS];
-    marked.copy_from_slice(marks);
+    let mut states = *kept.states;
+    let mut marks = *kept.marks;
+    let mut stepped = Kept {
+        states: &mut states,
+        marks: &mut marks,
+    };
     let mut events = [0; EVENTS_ENOUGH];
-    let used = scan_alarms(
-        settings,
-        &mut stepped,
-        &mut marked,
-        bytes,
-        &mut events,
-        counts,
-    );
+    let used = scan_alarms(scan, &mut stepped, &mut events, counts);
     if out.len() < used {
         return Err(Reason::EventsTooLong.at(0));
     }
-    states.copy_from_slice(&stepped);
-    marks.copy_from_slice(&marked);
+    *kept.states = *stepped.states;
+    *kept.marks = *stepped.marks;
     out[..used].copy_from_slice(&events[..used]);
     Ok(used / EVENT_SIZE)
 }
 
-// Checks a record and runs it, on words that are a bank's.
+// Checks a record and runs it on a bank.
 fn scan_bank(
-    settings: &[u64],
-    states: &mut [u64],
-    marks: &mut [u64],
+    settings: &[u64; SETTINGS_WORDS],
+    kept: &mut Kept<'_>,
     bytes: &[u8],
     out: &mut [u8],
 ) -> Result<usize, Refusal>
-    requires { (length settings.now ≡ settings_size) × (length states.old ≡ states_size) × (length marks.old ≡ marks_size) }
-    ensures value { result ≡ bank_answer (words_in settings.now states.old marks.old) bytes.now
-        (length out.old) }
-    ensures states_after { states.new ≡ (bank_words (words_in settings.now states.old marks.old) bytes.now
-        (length out.old)).states }
-    ensures marks_after { marks.new ≡ (bank_words (words_in settings.now states.old marks.old) bytes.now
-        (length out.old)).marks }
-    ensures out_after { out.new ≡ event_buffer (bank_in (words_in settings.now states.old marks.old))
-        bytes.now out.old }
+    ensures value { result ≡ bank_answer (words_in settings.now kept.old.states.now kept.old.marks.now) bytes.now (length out.old) }
+    ensures same { SameWords kept.old kept.new }
+    ensures states_after { kept.new.states.now ≡ (bank_words (words_in settings.now kept.old.states.now kept.old.marks.now) bytes.now (length out.old)).states }
+    ensures marks_after { kept.new.marks.now ≡ (bank_words (words_in settings.now kept.old.states.now kept.old.marks.now) bytes.now (length out.old)).marks }
+    ensures out_after { out.new ≡ event_buffer (bank_in (words_in settings.now kept.old.states.now kept.old.marks.now)) bytes.now out.old }
 {
     let counts = counts_in(settings);
-    check_record(bytes, counts, states[0])?;
+    check_record(bytes, counts, kept.states[LAST_TIME])?;
+    let scan = Scan {
+        settings,
+        bytes,
+        time: u64::get(bytes, 0),
+    };
     if out.len() < most_bytes(counts) {
-        return scan_short(settings, states, marks, bytes, out, counts);
+        return scan_short(&scan, kept, out, counts);
     }
-    let used = scan_alarms(settings, states, marks, bytes, out, counts);
+    let used = scan_alarms(&scan, kept, out, counts);
     Ok(used / EVENT_SIZE)
 }
 
 // Runs one scan in place: fills the front of `out` with its events and answers how many they are, or refuses and leaves every word and byte.
+// The three blocks come one by one, as the exported calls are lent them: before their lengths are looked at they have nothing in common.
 pub fn scan(
     settings: &[u64],
     states: &mut [u64],
@@ -118,6 +112,14 @@ pub fn scan(
     ensures out_after { out.new ≡ buffer_of (words_in settings.now states.old marks.old) bytes.now
         out.old }
 {
-    fit(settings, states, marks)?;
-    scan_bank(settings, states, marks, bytes, out)
+    let Some(settings) = block_in(settings) else {
+        return Err(Block::Settings.missing());
+    };
+    let Some(states) = states.as_mut_array() else {
+        return Err(Block::States.missing());
+    };
+    let Some(marks) = marks.as_mut_array() else {
+        return Err(Block::Marks.missing());
+    };
+    scan_bank(settings, &mut Kept { states, marks }, bytes, out)
 }

@@ -1,17 +1,18 @@
 -- A state that is stored is read back, and stores elsewhere leave it. Assumes nothing.
-use mathlib.Core.Path.{◌≡◌, refl, ap, ◌∙◌}
+use mathlib.Core.Path.{◌≡◌, refl, sym, ap, ◌∙◌}
 use mathlib.Core.Bool.{Bool}
 use mathlib.Core.List.{List}
 use Prim.Native.Nat.{ℕ, ◌+◌, ◌^◌, ◌≤◌, ◌<◌}
 use lib.ListN.{get_or, length}
+use Rattle.wire.specs.Number.{part}
 use Rattle.wire.specs.Internal.Words.{word_of}
 use Rattle.wire.proofs.WordLaws.{word_lt}
 use Rattle.wire.specs.Internal.Places.{word_bits}
 use native.Mathlib.Omega.{arith}
-use native.Mathlib.Nat.{add-zero, pow-le-pow_right}
+use native.Mathlib.Nat.{add-zero, zero-add, pow-le-pow_right}
 use lib.Seq.{sets}
 use Rattle.layout.specs.Internal.Words.{lower_of, upper_of, pair_of}
-use Rattle.layout.proofs.Laws.{get_or-above, get_or-below, get_or-stored}
+use Rattle.layout.proofs.Laws.{get_or-above, get_or-below, get_or-stored, get_or-part, sets-whole}
 use Rattle.state.specs.Internal.State.{State, state_words, state_in}
 
 -- its halves of words have 32 bits
@@ -51,6 +52,10 @@ module _ (ws us : List ℕ) (at b : ℕ) (same : (k : ℕ) → k < 11 → get_or
         same 10 (omega arith),
       )
 
+-- eleven words, cut out, say the state
+pub state-cut : (ws : List ℕ) (at : ℕ) → state_in (part ws at 11) 0 ≡ state_in ws at
+state-cut ws at = state-same ws (part ws at 11) at 0 (λ k m. get_or-part ws at 11 (0 + k) 0 (omega arith) ∙ rw zero-add)
+
 -- stores in front of its words leave it, and so do stores behind them
 pub state-above : (ws : List ℕ) (i : ℕ) (vs : List ℕ) (at : ℕ) → i + length vs ≤ at → state_in (sets ws i vs) at ≡ state_in ws at
 state-above ws i vs at h = state-same ws (sets ws i vs) at at (λ k m. get_or-above ws i vs (at + k) 0 (omega arith))
@@ -85,6 +90,10 @@ put_back ws at s h m =
 
     from_zero : (k : ℕ) → k ≡ 0 + k
     from_zero k = omega arith
+
+-- written over eleven words they are all there is
+pub words-whole : (ws : List ℕ) (s : State) → length ws ≡ 11 → sets ws 0 (state_words s) ≡ state_words s
+words-whole ws s h = sets-whole ws (state_words s) (h ∙ sym (eleven s))
 
 -- the flags of a step
 pub flags-small : (bs : List Bool) → length bs ≤ word_bits → word_of bs < 4294967296

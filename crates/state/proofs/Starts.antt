@@ -3,9 +3,9 @@ use mathlib.Core.Path.{◌≡◌, refl, sym, ap, ◌∙◌}
 use mathlib.Core.Logic.{◌⊎◌, inl, inr}
 use mathlib.Core.Bool.{Bool, true, false, cond}
 use mathlib.Core.List.{List, [], ◌∷◌, ◌++◌}
-use Prim.Native.Nat.{ℕ, ◌+◌, ◌<◌, zero, suc}
+use Prim.Native.Nat.{ℕ, ◌+◌, ◌≤◌, ◌<◌, zero, suc}
 use native.Mathlib.Nat.{add-zero, add-suc, suc-add}
-use lib.ListN.{length, get_or, take, set, replicate, length-take}
+use lib.ListN.{length, get_or, take, drop, set, replicate, length-take}
 use native.Mathlib.Omega.{arith}
 use lib.Seq.{take-suc, sets, set-get_or, set_comm, get_or-set_other}
 use Rattle.state.specs.Internal.Starts.{keep_start, keep_starts}
@@ -27,6 +27,17 @@ starts-stored [] time at ws = refl
 starts-stored (b ∷ bs) time at ws =
     let v : ℕ = cond b time (get_or ws at 0) in
     starts-stored bs time (suc at) (set ws at v) ∙ ap (sets (set ws at v) (suc at)) (values-behind bs time (suc at) at v ws (omega arith))
+
+-- words in front of them stay: one, and n
+keep-behind : (bs : List Bool) (time at w : ℕ) (ws : List ℕ) → keep_starts bs time (suc at) (w ∷ ws) ≡ w ∷ keep_starts bs time at ws
+unfolding keep_starts
+keep-behind [] time at w ws = refl
+keep-behind (b ∷ bs) time at w ws = keep-behind bs time (suc at) w (keep_start b time at ws)
+
+pub starts-behind : (bs : List Bool) (time n : ℕ) (ws : List ℕ) → n ≤ length ws → take n ws ++ keep_starts bs time 0 (drop n ws) ≡ keep_starts bs time n ws
+starts-behind bs time zero ws h = refl
+starts-behind bs time (suc n) [] h = absurd (omega arith)
+starts-behind bs time (suc n) (w ∷ ws) h = ap (◌∷◌ w) (starts-behind bs time n ws (omega arith)) ∙ sym (keep-behind bs time n w ws)
 
 -- where nothing begins, nothing changes
 pub none-begins : (n time at : ℕ) (ws : List ℕ) → keep_starts (replicate n false) time at ws ≡ ws

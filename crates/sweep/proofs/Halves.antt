@@ -12,11 +12,11 @@ use Rattle.wire.proofs.Laws.{sets-append}
 use Rattle.settings.specs.Counts.{form_at}
 use Rattle.settings.specs.declared.counts.Counts.{Counts}
 use Rattle.settings.specs.declared.types.Form.TheVariants.{Digital, Analog}
-use Rattle.layout.specs.Internal.Block.{counts_in, alarm_on}
+use Rattle.layout.specs.Internal.Block.{counts_in, alarm_on, state_at}
 use Rattle.scan_record.specs.Part.{time_of, reading_at, word_at}
 use Rattle.event.specs.Event.{log_bytes}
 use Rattle.event.proofs.Logs.{log-append}
-use Rattle.state.specs.Internal.State.{State, Stepped, state_words, state_at}
+use Rattle.state.specs.Internal.State.{State, Stepped, state_words}
 use Rattle.sweep.specs.Internal.Step.{step_of}
 use Rattle.bank.specs.Lent.{Words}
 use Rattle.bank.specs.Internal.Words.{words_in}

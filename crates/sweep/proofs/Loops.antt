@@ -12,11 +12,11 @@ use Rattle.settings.specs.Counts.{form_at}
 use Rattle.settings.specs.Alarm.{ack_required}
 use Rattle.settings.specs.declared.types.Form.{Form}
 use Rattle.layout.specs.Internal.Words.{alarm_in}
-use Rattle.layout.specs.Internal.Block.{alarm_at, counts_in, alarm_on}
+use Rattle.layout.specs.Internal.Block.{alarm_at, counts_in, alarm_on, state_at}
 use Rattle.scan_record.specs.Part.{time_of, reading_at, word_at}
 use Rattle.event.specs.Event.{log_bytes}
 use Rattle.event.proofs.Logs.{log-append}
-use Rattle.state.specs.Internal.State.{starts_of, state_in, state_words, state_at}
+use Rattle.state.specs.Internal.State.{starts_of, state_in, state_words}
 use Rattle.sweep.specs.Internal.Step.{step_of}
 use Rattle.state.proofs.Back.{eleven, state-above}
 use Rattle.marks.proofs.Lengths.{length-alarm}

@@ -15,13 +15,13 @@ use Rattle.settings.specs.declared.types.Alarm.{Alarm}
 use Rattle.settings.specs.declared.types.Form.{Form}
 use Rattle.settings.specs.declared.types.Form.TheVariants.{Digital, Analog}
 use Rattle.layout.specs.Internal.Words.{alarm_in}
-use Rattle.layout.specs.Internal.Block.{alarm_at, counts_in, count_in}
+use Rattle.layout.specs.Internal.Block.{alarm_at, counts_in, count_in, state_at}
 use Rattle.scan_record.specs.Part.{time_of, reading_at, word_at}
 use Rattle.event.proofs.Logs.{log-length, events-number}
 use Rattle.state.specs.Internal.Held.{look_digital, real_patterns, look_analog}
 use Rattle.digital.specs.Internal.Digital.{digital_events}
 use Rattle.analog.specs.Internal.Analog.{analog_events}
-use Rattle.state.specs.Internal.State.{State, state_in, state_at}
+use Rattle.state.specs.Internal.State.{State, state_in}
 use Rattle.sweep.specs.Internal.Step.{step_kind}
 use Rattle.digital.proofs.Laws.{digital-most}
 use Rattle.analog.proofs.Laws.{analog-most}

@@ -1,15 +1,18 @@
 -- The words of an alarm that was stepped. Assumes nothing.
 use mathlib.Core.Bool.{Bool}
 use mathlib.Core.Path.{◌≡◌, ap, ◌∙◌}
-use mathlib.Core.List.{List, [], ◌∷◌}
-use Prim.Native.Nat.{ℕ, ◌+◌, ◌*◌}
+use mathlib.Core.List.{List, [], ◌∷◌, ◌++◌}
+use Prim.Native.Nat.{ℕ, ◌+◌, ◌*◌, ◌≤◌}
 use native.Mathlib.Omega.{arith}
-use lib.Ieee.{binary32}
+use lib.Ieee.{Float, binary32}
 use lib.Ieee.Bits.{of_bits-fits}
-use lib.ListN.{length, get_or}
+use Rattle.std.proofs.lemmas.List.{drop-take}
+use lib.ListN.{length, get_or, take, drop}
+use lib.Seq.{sets, length-sets, drop-drop}
 use Rattle.settings.specs.Internal.Reals.{real_analog}
 use Rattle.wire.specs.Bits.{bit}
-use Rattle.wire.specs.Number.{number}
+use Rattle.wire.specs.Real.{real_at}
+use Rattle.wire.specs.Number.{number, part as cut}
 use Rattle.wire.specs.Internal.Places.{word_bits}
 use Rattle.settings.specs.Counts.{form_at}
 use Rattle.settings.specs.Alarm.{ack_required}
@@ -18,8 +21,9 @@ use Rattle.settings.specs.declared.types.Alarm.{Alarm}
 use Rattle.settings.specs.declared.types.Form.{Form}
 use Rattle.settings.specs.declared.types.Form.TheVariants.{Digital, Analog}
 use Rattle.settings.specs.declared.types.Reading.{Reading}
+use Rattle.settings.specs.declared.types.Reading.TheVariants.{Level}
 use Rattle.layout.specs.Internal.Words.{lower_of, alarm_in, kind_in}
-use Rattle.layout.specs.Internal.Block.{alarm_at, counts_in}
+use Rattle.layout.specs.Internal.Block.{alarm_at, counts_in, state_at}
 use Rattle.scan_record.specs.Part.{time_of, reading_at, word_at}
 use Rattle.event.specs.Event.{log_bytes}
 use Rattle.state.specs.Internal.Held.{look_digital, real_patterns, look_analog}
@@ -27,13 +31,16 @@ use Rattle.digital.specs.Internal.Digital.{digital_events, digital_step}
 use Rattle.analog.specs.Internal.Analog.{analog_events, analog_step}
 use Rattle.event.specs.Internal.Events.{events_from}
 use Rattle.event.specs.Internal.Bits.{events_of}
-use Rattle.state.specs.Internal.State.{State, starts_of, state_in, state_at}
+use Rattle.state.specs.Internal.State.{State, Stepped, starts_of, state_in, state_words}
 use Rattle.sweep.specs.Internal.Step.{step_kind}
-use Rattle.state.proofs.Back.{Small, small-in, put_back}
+use Rattle.layout.proofs.Laws.{alarm-cut, part-put}
+use Rattle.state.proofs.Back.{Small, small-in, state-cut, put_back, eleven}
 use Rattle.digital.proofs.Laws.{small-digital}
 use Rattle.analog.proofs.Laws.{small-analog}
 use Rattle.event.proofs.Logs.{events-bits}
 use Rattle.marks.specs.Internal.Marks.{starts_in, mark_alarm}
+use Rattle.marks.proofs.Lengths.{length-alarm}
+use Rattle.marks.proofs.Parts.{starts-part}
 use Rattle.bank.specs.Lent.{Words}
 use Rattle.sweep.specs.Internal.Sweep.{alarm_events, alarm_marks, state_log, state_marks, place_step, place_states, place_log, place_marks, part_at, step_on}
 use Rattle.sweep.specs.Internal.Part.{log_of, marks_of, part_step, part_states, part_log, part_marks}
@@ -64,46 +71,91 @@ module _ (settings states rec : List ℕ) (at p time : ℕ) where
 module _ (scan : Scan) (part : Part) (states : List ℕ) where
   module _ (n : length states ≡ 580) where
     -- what is stored is read back
-    back : state_in (part_states scan part states) (state_at part.place) ≡ (part_step scan part states).state
+    back : state_in (part_states scan part states) (state_at part.place.index) ≡ (part_step scan part states).state
     unfolding place_states
     back =
-        put_back states (state_at part.place) (part_step scan part states).state (omega (arith, part.below))
-        (small scan.settings.now states scan.bytes.now part.at part.place scan.time part.form)
+        put_back states (state_at part.place.index) (part_step scan part states).state (omega (arith, part.place.below))
+        (small scan.settings.now states scan.bytes.now part.at part.place.index scan.time part.form)
 
     module _ {kept : List ℕ} {word : ℕ} (k : kept ≡ part_states scan part states) (e : word ≡ (part_step scan part states).events) where
-      kept_back : state_in kept (state_at part.place) ≡ (part_step scan part states).state
-      kept_back = ap (λ (ws : List ℕ). state_in ws (state_at part.place)) k ∙ back
+      kept_back : state_in kept (state_at part.place.index) ≡ (part_step scan part states).state
+      kept_back = ap (λ (ws : List ℕ). state_in ws (state_at part.place.index)) k ∙ back
 
       pub log_back : log_of scan part kept word ≡ part_log scan part states
       unfolding state_log place_log
       log_back =
-          λ i. log_bytes (alarm_events (part.place + 1) (alarm_in part.form scan.settings.now (alarm_at part.place)) (kept_back i) (e i) scan.time)
+          λ i. log_bytes (alarm_events (part.place.index + 1) (alarm_in part.form scan.settings.now (alarm_at part.place.index)) (kept_back i) (e i) scan.time)
 
       pub marks-back : (marks : List ℕ) → marks_of scan part kept word marks ≡ part_marks scan part states marks
       unfolding state_marks place_marks
       marks-back marks =
-          λ i. alarm_marks part.place (alarm_in part.form scan.settings.now (alarm_at part.place)) (kept_back i) (e i) scan.time marks
+          λ i. alarm_marks part.place.index (alarm_in part.form scan.settings.now (alarm_at part.place.index)) (kept_back i) (e i) scan.time marks
 
-  -- the same from what the code has at hand
-  module _ (word : ℕ) where
-    pub log-same : {number from kept flags : ℕ} → number ≡ part.place + 1 → from ≡ alarm_at part.place → kept ≡ state_at part.place
-        → flags ≡ lower_of (get_or states kept 0)
-        → log_bytes (events_of number (kind_in part.form scan.settings.now from) (bit flags 1) scan.time word_bits 0 word) ≡ log_of scan part states word
-    unfolding state_log state_in alarm_in
-    log-same a b k f =
-        let g = f ∙ ap (λ (at : ℕ). lower_of (get_or states at 0)) k in
-        λ i. log_bytes (events_of (a i) (kind_in part.form scan.settings.now (b i)) (bit (g i) 1) scan.time word_bits 0 word)
+  -- ---- no length changes
 
-    pub marks-same : {from kept : ℕ} {required : Bool} → from ≡ alarm_at part.place → kept ≡ state_at part.place
-        → required ≡ ack_required (alarm_in part.form scan.settings.now from).kind (alarm_in part.form scan.settings.now from).flags
-        → (marks : List ℕ)
-        → mark_alarm required (starts_in states (kept + 5)) word scan.time (25 * part.place) marks ≡ marks_of scan part states word marks
-    unfolding state_marks
-    marks-same {from} {kept} b k r marks =
-        let q = r
-        ∙ ap (λ (at : ℕ). ack_required (alarm_in part.form scan.settings.now at).kind (alarm_in part.form scan.settings.now at).flags) b in
-        let s = starts-in states kept ∙ ap (λ (at : ℕ). starts_of (state_in states at)) k in
-        λ i. mark_alarm (q i) (s i) word scan.time (25 * part.place) marks
+  pub states-length : length (part_states scan part states) ≡ length states
+  unfolding place_states
+  states-length = length-sets states (state_at part.place.index) (state_words (part_step scan part states).state)
+
+  pub marks-length : (word : ℕ) (marks : List ℕ) → length (marks_of scan part states word marks) ≡ length marks
+  unfolding state_marks
+  marks-length word marks =
+      let alarm = alarm_in part.form scan.settings.now (alarm_at part.place.index) in
+      length-alarm (ack_required alarm.kind alarm.flags) (starts_of (state_in states (state_at part.place.index))) word scan.time (25 * part.place.index) marks
+
+  -- ---- the same from the words that the code cuts out
+
+  abbrev p : ℕ
+  p = part.place.index
+
+  -- the words behind an offset begin with the state, and end with it stepped
+  module _ {at : ℕ} {front behind : List ℕ} (a : at ≡ state_at p) (f : front ≡ take at states) (b : behind ≡ drop at states) where
+    pub state-cut-out : {state : List ℕ} → state ≡ take 11 behind → state ≡ cut states (state_at p) 11
+    state-cut-out s = s ∙ ap (take 11) (b ∙ ap (λ (k : ℕ). drop k states) a)
+
+    pub state-put : (t : State) {new : List ℕ} → length states ≡ 580 → new ≡ state_words t
+        → front ++ (new ++ drop 11 behind) ≡ sets states (state_at p) (state_words t)
+    state-put t h n =
+        part-put states (state_words t) (state_at p) 11 (omega (arith, part.place.below)) (eleven t) (f ∙ ap (λ (k : ℕ). take k states) a)
+        (b ∙ ap (λ (k : ℕ). drop k states) a) n
+
+  module _ {own state : List ℕ} (o : own ≡ cut scan.settings.now (alarm_at p) 8) (s : state ≡ cut states (state_at p) 11) where
+    pub alarm-is : (form : Form) → alarm_in form own 0 ≡ alarm_in form scan.settings.now (alarm_at p)
+    alarm-is form = ap (λ (l : List ℕ). alarm_in form l 0) o ∙ alarm-cut form scan.settings.now (alarm_at p)
+
+    pub state-is : state_in state 0 ≡ state_in states (state_at p)
+    state-is = ap (λ (l : List ℕ). state_in l 0) s ∙ state-cut states (state_at p)
+
+    -- the step, by the form
+    abbrev step : Form → Stepped
+    step form = place_step form scan.settings.now states scan.bytes.now part.at p scan.time
+
+    pub digital-is : {word : ℕ} → word ≡ word_at Digital scan.bytes.now part.at
+        → digital_step (alarm_in Digital own 0) (state_in state 0) (reading_at Digital scan.bytes.now part.at) word scan.time ≡ step Digital
+    unfolding place_step step_kind alarm_in
+    digital-is w = λ i. digital_step (alarm-is Digital i) (state-is i) (reading_at Digital scan.bytes.now part.at) (w i) scan.time
+
+    pub analog-is : {x : Float} {word : ℕ} → x ≡ real_at scan.bytes.now part.at → word ≡ word_at Analog scan.bytes.now part.at
+        → analog_step reals real_patterns (real_analog (alarm_in Analog own 0)) (state_in state 0) (Level x) word scan.time ≡ step Analog
+    unfolding place_step step_kind alarm_in
+    analog-is x w = λ i. analog_step reals real_patterns (real_analog (alarm-is Analog i)) (state-is i) (Level (x i)) (w i) scan.time
+
+    module _ (word : ℕ) where
+      pub log-same : {number : ℕ} {suppressed : Bool} → number ≡ p + 1 → suppressed ≡ bit (lower_of (get_or state 0 0)) 1
+          → log_bytes (events_of number (kind_in part.form own 0) suppressed scan.time word_bits 0 word) ≡ log_of scan part states word
+      unfolding state_log state_in alarm_in
+      log-same n b =
+          λ i. log_bytes (events_of (n i) (alarm-is part.form i).kind ((b ∙ ap (λ (t : State). bit t.flags 1) state-is) i) scan.time word_bits 0 word)
+
+      pub marks-same : {required : Bool} {starts : List ℕ} → required ≡ ack_required (alarm_in part.form own 0).kind (alarm_in part.form own 0).flags
+          → starts ≡ drop 5 state → state_at p + 11 ≤ length states → (marks : List ℕ)
+          → mark_alarm required starts word scan.time (25 * p) marks ≡ marks_of scan part states word marks
+      unfolding state_marks
+      marks-same r b h marks =
+          let q = r ∙ (λ i. ack_required (alarm-is part.form i).kind (alarm-is part.form i).flags) in
+          let six = ap (drop 5) s ∙ drop-take 5 6 (drop (state_at p) states) ∙ ap (take 6) (drop-drop 5 (state_at p) states)
+          ∙ starts-part states (state_at p + 5) (omega arith) ∙ starts-in states (state_at p) in
+          λ i. mark_alarm (q i) ((b ∙ six) i) word scan.time (25 * p) marks
 
 -- of the step at a place
 pub small-on : (w : Words) (rec : List ℕ) (p : ℕ) → Small (step_on w rec p).state

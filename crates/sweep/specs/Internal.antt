@@ -2,3 +2,4 @@
 pub mod Step
 pub mod Sweep
 pub mod Part
+pub mod Scan

@@ -1,88 +1,99 @@
 // What a checked record does to the alarm at a place.
 ghost use Rattle.std.specs.Prelude.{◌≡◌, ◌+◌, ◌≤◌, length};
 ghost use Rattle.std.proofs.lemmas.List.Edits.{sets};
-ghost use Rattle.layout.specs.Internal.Sizes.{marks_size, states_size};
 ghost use Rattle.scan_record.specs.Internal.Size.{entry_size};
+ghost use Rattle.bank.specs.Internal.Blocks.{SameWords};
 ghost use Rattle.sweep.specs.Internal.Part.{part_step, part_states, part_log, part_marks, log_of, marks_of};
 
 use crate::part::{Part, Scan};
 use analog::step::analog_step;
+use bank::blocks::Kept;
 use digital::step::digital_step;
 use event::source::Source;
 use event::write::put_events;
 use layout::half::lower;
-use layout::sizes::MARK_WORDS;
+use layout::sizes::{MARKS_WORDS, STATES_WORDS};
 use marks::mark::{mark_alarm, required_in};
+use scan_record::part::{ANALOG_WORD, DIGITAL_WORD};
 use settings::types::{Form, Reading};
-use state::offsets::STARTS;
+use state::offsets::FLAGS;
+use wire::bits::is_set;
 use wire::number::LittleEndian;
 use wire::places::SUPPRESSED;
 
 // Steps the alarm with its part of the record, and answers its event word.
-fn step_form(scan: &Scan<'_>, part: Part, states: &mut [u64]) -> u32
-    requires { (length states.old ≡ states_size) × (part.at + entry_size part.form ≤ length scan.now.bytes.now) }
+fn step_form(scan: &Scan<'_>, part: Part, states: &mut [u64; STATES_WORDS]) -> u32
+    requires { part.at + entry_size part.form ≤ length scan.now.bytes.now }
     ensures value { result ≡ (part_step scan.now part states.old).events }
     ensures states_after { states.new ≡ part_states scan.now part states.old }
 {
-    let settings = scan.settings;
+    let settings = part.place.settings_in(scan.settings);
+    let (_, behind) = states.split_at_mut(part.place.state_at());
+    let Some(state) = behind.first_chunk_mut() else {
+        unreachable!()
+    };
     let bytes = scan.bytes;
-    let time = scan.time;
-    let from = part.settings_at();
-    let kept = part.state_at();
     let at = part.at;
     match part.form {
         Form::Digital => {
             let reading = Reading::Digital(bytes[at] == 1);
-            let word = u32::get(bytes, at + 1);
-            digital_step(settings, from, states, kept, reading, word, time)
+            let word = u32::get(bytes, at + DIGITAL_WORD);
+            digital_step(settings, state, reading, word, scan.time)
         }
         Form::Analog => {
             let reading = Reading::Level(f32::get(bytes, at));
-            let word = u32::get(bytes, at + 4);
-            analog_step(settings, from, states, kept, reading, word, time)
+            let word = u32::get(bytes, at + ANALOG_WORD);
+            analog_step(settings, state, reading, word, scan.time)
         }
     }
 }
 
-// Writes the events of an alarm that was stepped, marks them in its counts and stamps, and answers the offset past them. Most
-// alarms have none.
+// Marks the events of an alarm that was stepped in its counts and stamps. Most alarms have none.
+fn mark_place(
+    scan: &Scan<'_>,
+    part: Part,
+    states: &[u64; STATES_WORDS],
+    marks: &mut [u64; MARKS_WORDS],
+    events: u32,
+)
+    ensures { marks.new ≡ marks_of scan.now part states.now events marks.old }
+{
+    if events == 0 {
+        return;
+    }
+    let Some(starts) = part.place.state_in(states).last_chunk() else {
+        unreachable!()
+    };
+    let (_, behind) = marks.split_at_mut(part.place.marks_at());
+    let Some(own) = behind.first_chunk_mut() else {
+        unreachable!()
+    };
+    let required = required_in(part.place.settings_in(scan.settings), part.form);
+    mark_alarm(own, required, starts, events, scan.time);
+}
+
+// Writes the events of an alarm that was stepped, and answers the offset past them.
 fn log_place(
     scan: &Scan<'_>,
     part: Part,
-    states: &[u64],
-    marks: &mut [u64],
+    states: &[u64; STATES_WORDS],
     out: &mut [u8],
     used: usize,
     events: u32,
 ) -> usize
-    requires sizes { (length states.now ≡ states_size) × (length marks.old ≡ marks_size) }
-    requires room { used + length (log_of scan.now part states.now events) ≤ length out.old }
+    requires { used + length (log_of scan.now part states.now events) ≤ length out.old }
     ensures value { result ≡ used + length (log_of scan.now part states.now events) }
-    ensures marks_after { marks.new ≡ marks_of scan.now part states.now events marks.old }
     ensures out_after { out.new ≡ sets out.old used (log_of scan.now part states.now events) }
 {
     if events == 0 {
         return used;
     }
-    let from = part.settings_at();
-    let kept = part.state_at();
-    let required = required_in(scan.settings, from, part.form);
-    mark_alarm(
-        marks,
-        MARK_WORDS * part.place,
-        required,
-        states,
-        kept + STARTS,
-        events,
-        scan.time,
-    );
-    let flags = lower(states[kept]);
+    let flags = lower(part.place.state_in(states)[FLAGS]);
     let source = Source {
-        number: part.number(),
+        number: part.place.number(),
         form: part.form,
-        settings: scan.settings,
-        from,
-        suppressed: flags / SUPPRESSED % 2 == 1,
+        settings: part.place.settings_in(scan.settings),
+        suppressed: is_set(flags, SUPPRESSED),
         time: scan.time,
     };
     put_events(out, used, &source, events)
@@ -92,19 +103,19 @@ fn log_place(
 pub fn step_place(
     scan: &Scan<'_>,
     part: Part,
-    states: &mut [u64],
-    marks: &mut [u64],
+    kept: &mut Kept<'_>,
     out: &mut [u8],
     used: usize,
 ) -> usize
-    requires sizes { (length states.old ≡ states_size) × (length marks.old ≡ marks_size) }
-    requires part { (part.at + entry_size part.form ≤ length scan.now.bytes.now) ×
-        (used + length (part_log scan.now part states.old) ≤ length out.old) }
-    ensures value { result ≡ used + length (part_log scan.now part states.old) }
-    ensures states_after { states.new ≡ part_states scan.now part states.old }
-    ensures marks_after { marks.new ≡ part_marks scan.now part states.old marks.old }
-    ensures out_after { out.new ≡ sets out.old used (part_log scan.now part states.old) }
+    requires { (part.at + entry_size part.form ≤ length scan.now.bytes.now) ×
+        (used + length (part_log scan.now part kept.old.states.now) ≤ length out.old) }
+    ensures value { result ≡ used + length (part_log scan.now part kept.old.states.now) }
+    ensures same { SameWords kept.old kept.new }
+    ensures states_after { kept.new.states.now ≡ part_states scan.now part kept.old.states.now }
+    ensures marks_after { kept.new.marks.now ≡ part_marks scan.now part kept.old.states.now kept.old.marks.now }
+    ensures out_after { out.new ≡ sets out.old used (part_log scan.now part kept.old.states.now) }
 {
-    let events = step_form(scan, part, states);
-    log_place(scan, part, states, marks, out, used, events)
+    let events = step_form(scan, part, kept.states);
+    mark_place(scan, part, kept.states, kept.marks, events);
+    log_place(scan, part, kept.states, out, used, events)
 }

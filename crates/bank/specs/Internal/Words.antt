@@ -2,9 +2,9 @@
 use Rattle.std.specs.Prelude.{ℕ, cond, List, eqb, length, get_or, replicate, Result, Ok, Err, ⊤}
 use Rattle.layout.specs.Internal.Sizes.{marks_size, states_size}
 use Rattle.settings.specs.declared.refusals.Refusal.{Refusal}
-use Rattle.layout.specs.Internal.Block.{no_bank, placed, settings_in, is_block}
+use Rattle.layout.specs.Internal.Block.{no_bank, placed, settings_in, is_block, state_at}
 use Rattle.state.specs.Internal.Held.{fresh_state}
-use Rattle.state.specs.Internal.State.{state_in, state_at}
+use Rattle.state.specs.Internal.State.{state_in}
 use Rattle.bank.specs.Lent.{Words}
 use Rattle.bank.specs.Internal.Bank.{Bank}
 

@@ -7,4 +7,4 @@ use Rattle.event.specs.Internal.Bits.{events_of}
 
 -- of n bits of an event word from bit k on
 abbrev pub source_log : Source → ℕ → ℕ → ℕ → List ℕ
-source_log s n k word = log_bytes (events_of s.number (kind_in s.form s.settings.now s.from) s.suppressed s.time n k word)
+source_log s n k word = log_bytes (events_of s.number (kind_in s.form s.settings.now 0) s.suppressed s.time n k word)

@@ -9,6 +9,8 @@ use Rattle.settings.specs.Alarm.{blank, blanks}
 use Rattle.settings.specs.declared.counts.Counts.{Counts}
 use Rattle.settings.specs.declared.types.Alarm.{Alarm}
 use Rattle.settings.specs.declared.types.Settings.{Settings}
+use Rattle.layout.specs.declared.block.Block.{Block}
+use Rattle.layout.specs.declared.block.Block.TheVariants.{Settings as SettingsBlock, States as StatesBlock, Marks as MarksBlock}
 use Rattle.layout.specs.Internal.Words.{alarm_in, alarm_words, form_of}
 
 -- the letters MEIFGUR2, the first in the highest byte
@@ -18,6 +20,14 @@ layout_word = 0x4D45494647555232
 -- where the words of the alarm at a place begin
 abbrev pub alarm_at : ℕ → ℕ
 alarm_at place = 4 + 8 * place
+
+-- and those of its state, 16 for each: 11, and room for more
+abbrev pub state_at : ℕ → ℕ
+state_at place = 4 + 16 * place
+
+-- and its counts and stamps
+abbrev pub marks_at : ℕ → ℕ
+marks_at place = 25 * place
 
 -- the layout word, the counts, and room for a third one
 abbrev pub head_words : Counts → List ℕ
@@ -66,3 +76,9 @@ is_block ws = eqb (length ws) settings_size && eqb (get_or ws 0 0) layout_word
 -- lent blocks that hold no bank. The place is the block: 0 settings, 1 states, 2 counts and stamps
 abbrev pub no_bank : ℕ → Refusal
 no_bank block = refusal NoBank block
+
+-- the blocks, as code has them
+abbrev pub block_number : Block → ℕ
+block_number SettingsBlock = 0
+block_number StatesBlock = 1
+block_number MarksBlock = 2

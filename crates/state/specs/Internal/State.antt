@@ -1,5 +1,5 @@
 -- What an alarm keeps between scans, and the words that it stands in.
-use Rattle.std.specs.Prelude.{ℕ, ◌+◌, ◌*◌, List, [], ◌∷◌, get_or}
+use Rattle.std.specs.Prelude.{ℕ, ◌+◌, List, [], ◌∷◌, get_or}
 use Rattle.layout.specs.Internal.Words.{lower_of, upper_of, pair_of}
 
 -- Of `flags`: those of the whole alarm (`disabled_flag` to `low_flag`), free bits, then for each condition in order, from `first_condition` on,
@@ -55,7 +55,3 @@ state_in ws at =
       rocpos = get_or ws (at + 9) 0;
       rocneg = get_or ws (at + 10) 0;
     }
-
--- where the words of the alarm at a place begin, 16 for each: 11, and room for more
-abbrev pub state_at : ℕ → ℕ
-state_at place = 4 + 16 * place

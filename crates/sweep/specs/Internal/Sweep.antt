@@ -12,11 +12,11 @@ use Rattle.settings.specs.declared.types.Alarm.{Alarm}
 use Rattle.settings.specs.declared.types.Form.{Form}
 use Rattle.settings.specs.declared.types.Form.TheVariants.{Digital, Analog}
 use Rattle.layout.specs.Internal.Words.{alarm_in}
-use Rattle.layout.specs.Internal.Block.{alarm_at, counts_in, count_in, alarm_on}
+use Rattle.layout.specs.Internal.Block.{alarm_at, counts_in, count_in, alarm_on, state_at}
 use Rattle.scan_record.specs.Part.{time_of, reading_at, word_at, offset_of, record_size}
 use Rattle.event.specs.Event.{Event, log_bytes}
 use Rattle.event.specs.Internal.Bits.{events_of}
-use Rattle.state.specs.Internal.State.{State, Stepped, starts_of, state_in, state_words, state_at}
+use Rattle.state.specs.Internal.State.{State, Stepped, starts_of, state_in, state_words}
 use Rattle.sweep.specs.Internal.Step.{step_of}
 use Rattle.marks.specs.Internal.Marks.{mark_alarm}
 use Rattle.bank.specs.Lent.{Words}

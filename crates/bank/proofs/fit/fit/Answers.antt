@@ -1,39 +1,28 @@
 -- `bank::fit::fit` meets its contract: each return takes the case that its tests led to. Assumes nothing.
-use borrow.Author.Tests.{eq-eqb, ne_eqb}
-use Rattle.bank.specs.Internal.Words.{fit_of}
+use Rattle.bank.specs.Internal.Words.{words_in}
+use Rattle.bank.proofs.Places.{no-settings, no-states, no-marks, blocks-fit}
 use Rattle.bank.proofs.fit.fit.Goals as goal
 
-pub returns-then-is_other : goal.returns-then-is_other
-unfolding fit_of
-returns-then-is_other c = rw (c.at.ensures, ← c.is_block-known.ensures, c.if-is_other.true)
+pub returns-in_default-clause-reply : goal.returns-in_default-clause-reply
+returns-in_default-clause-reply c =
+    let a = c.args in
+    rw c.missing.ensures (no-settings (words_in a.settings.now a.states.now a.marks.now) c.in_default.ensures)
 
-pub returns-then-states-ne-STATES_WORDS : goal.returns-then-states-ne-STATES_WORDS
-unfolding fit_of
-returns-then-states-ne-STATES_WORDS c =
-    rw (
-      c.at-then-states-ne-STATES_WORDS.ensures,
-      ← c.is_block-known.ensures,
-      c.if-is_other.false,
-      ne_eqb _ _ c.if-states-ne-STATES_WORDS.true,
-    )
+pub returns-in_default-as_array-clause-reply : goal.returns-in_default-as_array-clause-reply
+returns-in_default-as_array-clause-reply c =
+    let a = c.args in
+    rw c.missing-in_default-as_array.ensures
+    (no-states (words_in a.settings.now a.states.now a.marks.now) c.in-Some.ensures.0 c.in_default-as_array.ensures.cases)
 
-pub returns-then-marks-ne-MARKS_WORDS : goal.returns-then-marks-ne-MARKS_WORDS
-unfolding fit_of
-returns-then-marks-ne-MARKS_WORDS c =
-    rw (
-      c.at-then-marks-ne-MARKS_WORDS.ensures,
-      ← c.is_block-known.ensures,
-      c.if-is_other.false,
-      eq-eqb _ _ c.if-states-ne-STATES_WORDS.false,
-      ne_eqb _ _ c.if-marks-ne-MARKS_WORDS.true,
-    )
+pub returns-in_default-as_array-2-clause-reply : goal.returns-in_default-as_array-2-clause-reply
+returns-in_default-as_array-2-clause-reply c =
+    let a = c.args in
+    rw c.missing-in_default-as_array-2.ensures
+    (no-marks (words_in a.settings.now a.states.now a.marks.now) c.in-Some.ensures.0 c.in-Some-as_array.ensures.cases.long
+    c.in_default-as_array-2.ensures.cases)
 
-pub returns : goal.returns
-unfolding fit_of
-returns c =
-    rw (
-      ← c.is_block-known.ensures,
-      c.if-is_other.false,
-      eq-eqb _ _ c.if-states-ne-STATES_WORDS.false,
-      eq-eqb _ _ c.if-marks-ne-MARKS_WORDS.false,
-    )
+pub returns-clause-reply : goal.returns-clause-reply
+returns-clause-reply c =
+    let a = c.args in
+    blocks-fit (words_in a.settings.now a.states.now a.marks.now) c.in-Some.ensures.0 c.in-Some-as_array.ensures.cases.long
+    c.in-Some-as_array-2.ensures.cases.long

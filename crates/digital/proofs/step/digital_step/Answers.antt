@@ -4,6 +4,7 @@ use mathlib.Core.Path.{◌≡◌, refl, sym, ap, ◌∙◌}
 use mathlib.Core.Bool.{Bool, not, ◌&&◌, ◌||◌, cond}
 use mathlib.Core.List.{List}
 use Prim.Native.Nat.{ℕ, ◌-◌}
+use native.Mathlib.Omega.{arith}
 use lib.Dec.{leb}
 use Rattle.wire.specs.Bits.{bit}
 use Rattle.wire.specs.Internal.Words.{word_of}
@@ -21,6 +22,7 @@ use Rattle.level.specs.Level.{is_bit}
 use Rattle.state.specs.Internal.State.{State, state_in}
 use Rattle.state.specs.Internal.Held.{look_digital}
 use Rattle.digital.specs.Internal.Digital.{digital_told, digital_after, digital_step}
+use Rattle.state.proofs.Back.{words-whole}
 use Rattle.digital.proofs.Steps.{digital-flags, digital-events}
 use Rattle.digital.proofs.Steps.{digital-done, digital-rest-done}
 use Rattle.digital.proofs.step.digital_step.Goals as goal
@@ -29,21 +31,21 @@ pub returns-then-word-rests : goal.returns-then-word-rests
 unfolding alarm_in
 returns-then-word-rests c =
     let g = c.args in
-    let a : Alarm = alarm_in DigitalForm g.settings.now g.from in
+    let a : Alarm = alarm_in DigitalForm g.settings.now 0 in
     let watched = c.is_set.ensures ∙ ap (λ (v : ℕ). bit v 0) (c.from-set.ensures ∙ c.flags_in.ensures) in
     let met' = c.is_bit-met.ensures ∙ ap (λ (b : Bool). is_bit b g.reading) watched in
     let rests = and-true _ _ c.if-word-rests.true in
-    let both = digital-rest-done a g.states.now g.at g.reading g.word g.time met' (eqb-true _ _ rests.0)
+    let both = digital-rest-done a g.state.now 0 g.reading g.word g.time met' (eqb-true _ _ rests.0)
     (eqb-true _ _ (sym c.rests.ensures ∙ rests.1)) in
-    record { value = both.0; states_after = both.1 }
+    record { value = both.0; state_after = both.1 ∙ words-whole g.state.now _ (omega arith) }
 
 pub returns : goal.returns
 unfolding mode_bits digital_step alarm_in state_in
 returns c =
     let g = c.args in
-    let ws : List ℕ = g.states.now in
-    let a : Alarm = alarm_in DigitalForm g.settings.now g.from in
-    let s : State = state_in ws g.at in
+    let ws : List ℕ = g.state.now in
+    let a : Alarm = alarm_in DigitalForm g.settings.now 0 in
+    let s : State = state_in ws 0 in
     let x : Reading = g.reading in
     let low = c.lower-flags.ensures in
     let up = c.upper-previous.ensures in
@@ -87,6 +89,7 @@ returns c =
     let first = c.pair-kept.ensures.0 ∙ ap (λ (f : ℕ). pair_of f g.word) flags in
     record {
       value = events;
-      states_after = c.keep.ensures ∙ digital-done ws g.at (digital_after a x g.word g.time (look_digital s)) refl
-          (λ i. cond ((enabled i && met' i) && not (on i)) g.time s.hh) first;
+      state_after = c.keep.ensures ∙ digital-done ws 0 (digital_after a x g.word g.time (look_digital s)) refl
+          (λ i. cond ((enabled i && met' i) && not (on i)) g.time s.hh) first
+          ∙ words-whole ws _ (omega arith);
     }

@@ -8,9 +8,9 @@ use Rattle.event.proofs.slot.severity_at.Goals as goal
 pub returns-then-place-eq0 : goal.returns-then-place-eq0
 returns-then-place-eq0 c =
     let s = c.args.source.now in
-    rw c.in-Analog.is (c.lower.ensures ∙ lower-stored s.settings.now s.from c.args.place (search rules) c.if-place-eq0.true)
+    rw c.in-Analog.is (c.lower.ensures ∙ lower-stored s.settings.now 0 c.args.place (search rules) c.if-place-eq0.true)
 
 pub returns-else-place-eq0 : goal.returns-else-place-eq0
 returns-else-place-eq0 c =
     let s = c.args.source.now in
-    rw c.in-Analog.is (c.upper.ensures ∙ upper-stored s.settings.now s.from c.args.place (search rules) c.if-place-eq0.false)
+    rw c.in-Analog.is (c.upper.ensures ∙ upper-stored s.settings.now 0 c.args.place (search rules) c.if-place-eq0.false)

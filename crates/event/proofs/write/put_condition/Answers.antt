@@ -14,7 +14,7 @@ pub returns-then-word-eq0 : goal.returns-then-word-eq0
 returns-then-word-eq0 c =
     let a = c.args in
     let s = a.source.now in
-    let e = no-log s.number (kind_in s.form s.settings.now s.from) s.suppressed s.time (condition_bit a.place 0) a.word
+    let e = no-log s.number (kind_in s.form s.settings.now 0) s.suppressed s.time (condition_bit a.place 0) a.word
     c.if-word-eq0.true in
     record {
       value = rw e (sym (add-zero _));
@@ -27,7 +27,7 @@ put_bits-requires c =
     let s = a.source.now in
     let h = c.head-first.ensures in
     let e =
-    condition-records s.number s.form s.settings.now s.from s.suppressed s.time a.place a.word (search rules) h.value s.small
+    condition-records s.number s.form s.settings.now 0 s.suppressed s.time a.place a.word (search rules) h.value s.small
     h.upper_bound.1 c.condition_at-condition.ensures c.acting_severity-severity.ensures
     c.severity_at.ensures in
     omega (arith, ap length e)
@@ -39,7 +39,7 @@ returns c =
     let h = c.head-first.ensures in
     let p = c.put_bits.ensures in
     let e =
-    condition-records s.number s.form s.settings.now s.from s.suppressed s.time a.place a.word (search rules) h.value s.small
+    condition-records s.number s.form s.settings.now 0 s.suppressed s.time a.place a.word (search rules) h.value s.small
     h.upper_bound.1 c.condition_at-condition.ensures
     c.acting_severity-severity.ensures
     c.severity_at.ensures in

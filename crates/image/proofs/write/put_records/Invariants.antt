@@ -7,12 +7,12 @@ use lib.Seq.{sets, slice}
 use Rattle.image.specs.Internal.Write.{records_bytes, read_as}
 use Rattle.image.proofs.write.put_records.Given as goal
 
-abbrev pub invariant-loop-place : goal.invariant-loop-place
-invariant-loop-place l =
+abbrev pub invariant-loop-index : goal.invariant-loop-index
+invariant-loop-index l =
     let alarms = read_as l.form l.words in
     record {
       same_length : length l.out ≡ length l.initial.out;
-      room : l.at + length (records_bytes l.form (slice l.place l.end alarms)) ≡ l.start + length (records_bytes l.form (slice l.first l.end alarms));
-      left : sets l.out l.at (records_bytes l.form (slice l.place l.end alarms))
+      room : l.at + length (records_bytes l.form (slice l.index l.end alarms)) ≡ l.start + length (records_bytes l.form (slice l.first l.end alarms));
+      left : sets l.out l.at (records_bytes l.form (slice l.index l.end alarms))
           ≡ sets l.initial.out l.start (records_bytes l.form (slice l.first l.end alarms));
     }

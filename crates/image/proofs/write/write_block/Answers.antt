@@ -27,7 +27,7 @@ put_section-next-requires c =
     let h = c.has_room in
     let r = room counts _ (sym h.ensures ∙ c.if-not-has_room.false) in
     record {
-      sizes = omega (arith, section-room Digital 0 counts.digital (read_as Digital ws), r.most, r.image);
+      few = omega (arith, section-room Digital 0 counts.digital (read_as Digital ws), r.most, r.image);
       room = omega (arith, section-room Digital 0 counts.digital (read_as Digital ws), r.most, r.image);
     }
 
@@ -39,7 +39,7 @@ put_section-length-requires c =
     let r = room counts _ (sym h.ensures ∙ c.if-not-has_room.false) in
     let first = section-room Digital 0 counts.digital (read_as Digital ws) in
     let second = section-room Analog counts.digital counts.analog (read_as Analog ws) in
-    record { sizes = omega (arith, r.most, r.image); room = omega (arith, r.most, r.image) }
+    record { few = omega (arith, r.most, r.image); room = omega (arith, r.most, r.image) }
 
 pub returns : goal.returns
 unfolding written_of image_buffer settings_in

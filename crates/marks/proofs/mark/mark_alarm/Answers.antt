@@ -5,4 +5,4 @@ use Rattle.marks.proofs.mark.mark_alarm.Goals as goal
 
 pub returns : goal.returns
 unfolding mark_alarm
-returns c = c.mark_conditions.ensures ∙ rw c.choose.ensures
+returns c = c.mark_conditions.ensures ∙ rw (c.choose.ensures, c.is_set-reset.ensures)

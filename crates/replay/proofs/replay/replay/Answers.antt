@@ -4,18 +4,11 @@ use mathlib.Core.List.{List}
 use Prim.Native.Nat.{ℕ}
 use Rattle.std.proofs.Common.{Ok}
 use Rattle.std.proofs.lemmas.Result.{err_from_is_err_and}
+use Rattle.settings.specs.Internal.Replies.{reply_of}
 use Rattle.bank.specs.Lent.{Words}
 use Rattle.bank.specs.Internal.Words.{words_in, fit_of}
-use Rattle.bank.proofs.Places.{fit-says}
 use Rattle.replay.proofs.Replays.{reply-is, words_are, buffer-is}
 use Rattle.replay.proofs.replay.replay.Goals as goal
-
-pub run-requires : goal.run-requires
-run-requires c =
-    let a = c.args in
-    let w : Words = words_in a.settings.now a.states.now a.marks.now in
-    let fits = fit-says w (sym c.fit.ensures ∙ c.in_ok-fit.was) in
-    (fits.settings-long, fits.states-long, fits.marks-long)
 
 pub returns : goal.returns
 returns c =
@@ -23,7 +16,7 @@ returns c =
     let bytes : List ℕ = a.bytes.now in
     let out : List ℕ = a.out.now in
     let w : Words = words_in a.settings.now a.states.now a.marks.now in
-    let fits : Ok tt ≡ fit_of w = sym c.in_ok-fit.was ∙ c.fit.ensures in
+    let fits : Ok tt ≡ fit_of w = ap reply_of (sym c.in_ok-fit.was) ∙ c.fit.ensures.reply in
     let e = c.run.ensures in
     let words = words_are w bytes out fits in
     record {
@@ -39,7 +32,7 @@ returns-in_err-fit c =
     let bytes : List ℕ = a.bytes.now in
     let out : List ℕ = a.out.now in
     let w : Words = words_in a.settings.now a.states.now a.marks.now in
-    let unfit = sym c.in_err-fit.was ∙ c.fit.ensures in
+    let unfit = ap reply_of (sym c.in_err-fit.was) ∙ c.fit.ensures.reply in
     let p = err_from_is_err_and c.from_residual.result c.from_residual.ensures.1 in
     let words = words_are w bytes out unfit in
     record {

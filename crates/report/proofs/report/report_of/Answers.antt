@@ -1,5 +1,4 @@
 -- `report::report::report_of` meets its contract: each return takes the case that its test led to. Assumes nothing.
-use borrow.Author.Rules.{rules}
 use mathlib.Core.Path.{sym, ◌∙◌}
 use native.Mathlib.Omega.{arith}
 use Rattle.layout.specs.Internal.Block.{settings_in}
@@ -15,10 +14,7 @@ overflow_sub-n c = (there-says _ _ (sym c.is_there.ensures ∙ c.if-is_there.tru
 pub report_at-requires : goal.report_at-requires
 report_at-requires c =
     let t = there-says _ _ (rw c.counts_in.ensures at (sym c.is_there.ensures ∙ c.if-is_there.true)) in
-    record {
-      there = (omega arith, omega arith);
-      sizes = search rules;
-    }
+    (omega arith, omega arith)
 
 pub returns-then-is_there : goal.returns-then-is_there
 unfolding report_of bank_in settings_in

@@ -5,4 +5,4 @@ use Rattle.report.proofs.status.status_at.Goals as goal
 
 pub returns : goal.returns
 unfolding status_at
-returns c = simp div-one
+returns c = rw (c.is_set.ensures, c.is_set-2.ensures, div-one)

@@ -1,5 +1,5 @@
 -- `report::whole::analog_whole` meets its contract. Assumes nothing.
-use native.Mathlib.Nat.{div-one, add-zero}
+use native.Mathlib.Nat.{div-one}
 use Rattle.state.specs.Internal.State.{state_in}
 use Rattle.report.proofs.whole.analog_whole.Goals as goal
 
@@ -18,5 +18,4 @@ returns c =
       c.is_set-5.ensures,
       c.lower-flags.ensures,
       div-one,
-      add-zero,
     )

@@ -1,59 +1,71 @@
--- `scan::scan::scan` meets its contract: by whether the blocks hold a bank. Assumes nothing.
-use mathlib.Core.Path.{◌≡◌, sym, ap, ◌∙◌}
-use mathlib.Core.List.{List}
-use Prim.Native.Nat.{ℕ}
+-- `scan::scan::scan` meets its contract: each return takes the case that its tests led to. Assumes nothing.
+use borrow.Author.Rules.{rules}
+use mathlib.Core.Path.{◌≡◌, ap, ◌∙◌}
 use lib.ListN.{length}
-use Rattle.std.proofs.Common.{Result, Ok}
-use Rattle.std.proofs.lemmas.Result.{err_from_is_err_and}
-use Rattle.settings.specs.Refusals.{and_then}
-use Rattle.settings.specs.declared.refusals.Refusal.{Refusal}
 use Rattle.bank.specs.Lent.{Words}
-use Rattle.bank.specs.Internal.Words.{words_in, on_reply, fit_of, bank_in}
-use Rattle.bank.proofs.Places.{fit-says}
-use Rattle.sweep.specs.Internal.Sweep.{words_after}
-use Rattle.scan.specs.Internal.Scan.{if_accepted, scan_of, event_buffer}
-use Rattle.scan.specs.Internal.Words.{bank_answer, bank_words, answer_of, scanned_words, buffer_of}
+use Rattle.bank.specs.Internal.Words.{words_in, bank_in}
+use Rattle.bank.proofs.Places.{no-settings, no-states, no-marks, blocks-fit}
+use Rattle.scan.specs.Internal.Scan.{event_buffer}
+use Rattle.scan.specs.Internal.Words.{bank_answer, bank_words}
+use Rattle.scan.proofs.Fits.{of-bank, of-none}
 use Rattle.scan.proofs.scan.scan.Goals as goal
 
-pub scan_bank-requires : goal.scan_bank-requires
-scan_bank-requires c =
+pub returns-in_default : goal.returns-in_default
+returns-in_default c =
     let a = c.args in
     let w : Words = words_in a.settings.now a.states.now a.marks.now in
-    let fits = fit-says w (sym c.fit.ensures ∙ c.in_ok-fit.was) in
-    (fits.settings-long, fits.states-long, fits.marks-long)
-
-pub returns : goal.returns
-unfolding bank_answer bank_words answer_of scanned_words buffer_of
-returns c =
-    let a = c.args in
-    let rec : List ℕ = a.bytes.now in
-    let w : Words = words_in a.settings.now a.states.now a.marks.now in
-    let room = length a.out.now in
-    let fits : Ok tt ≡ fit_of w = sym (sym c.fit.ensures ∙ c.in_ok-fit.was) in
-    let e = c.scan_bank.ensures in
-    let said : bank_answer w rec room ≡ answer_of w rec room = ap (λ (r : Result (Unit {0}) Refusal). and_then r (λ _. (scan_of (bank_in w) rec room).answer)) fits in
-    let after = ap (λ (r : Result ℕ Refusal). if_accepted r (words_after w rec) w) said in
+    let none = of-none w a.bytes.now (length a.out.now) a.out.now (no-settings w c.in_default.ensures) in
     record {
-      value = e.value ∙ said;
-      states_after = e.states_after ∙ ap (λ (v : Words). v.states) after;
-      marks_after = e.marks_after ∙ ap (λ (v : Words). v.marks) after;
-      out_after = e.out_after ∙ ap (λ (r : Result (Unit {0}) Refusal). on_reply r (event_buffer (bank_in w) rec a.out.now) (λ q. a.out.now)) fits;
+      value = rw c.missing.ensures none.answer-is;
+      states_after = ap (λ (v : Words). v.states) none.words-are;
+      marks_after = ap (λ (v : Words). v.marks) none.words-are;
+      out_after = none.buffer-is;
     }
 
-pub returns-in_err-fit : goal.returns-in_err-fit
-unfolding answer_of scanned_words buffer_of
-returns-in_err-fit c =
+pub returns-in_default-as_mut_array : goal.returns-in_default-as_mut_array
+returns-in_default-as_mut_array c =
     let a = c.args in
-    let rec : List ℕ = a.bytes.now in
     let w : Words = words_in a.settings.now a.states.now a.marks.now in
-    let room = length a.out.now in
-    let unfit = sym (sym c.fit.ensures ∙ c.in_err-fit.was) in
-    let said = ap (λ (r : Result (Unit {0}) Refusal). and_then r (λ _. (scan_of (bank_in w) rec room).answer)) unfit in
-    let after = ap (λ (r : Result ℕ Refusal). if_accepted r (words_after w rec) w) said in
-    let p = err_from_is_err_and c.from_residual.result c.from_residual.ensures.1 in
+    let none = of-none w a.bytes.now (length a.out.now) a.out.now (no-states w c.in-Some.ensures.0 c.in_default-as_mut_array.ensures.cases) in
     record {
-      value = rw (p.1, p.2) said;
-      states_after = ap (λ (v : Words). v.states) after;
-      marks_after = ap (λ (v : Words). v.marks) after;
-      out_after = ap (λ (r : Result (Unit {0}) Refusal). on_reply r (event_buffer (bank_in w) rec a.out.now) (λ q. a.out.now)) unfit;
+      value = rw c.missing-in_default-as_mut_array.ensures none.answer-is;
+      states_after = ap (λ (v : Words). v.states) none.words-are;
+      marks_after = ap (λ (v : Words). v.marks) none.words-are;
+      out_after = none.buffer-is;
+    }
+
+pub returns-in_default-as_mut_array-2 : goal.returns-in_default-as_mut_array-2
+returns-in_default-as_mut_array-2 c =
+    let a = c.args in
+    let w : Words = words_in a.settings.now a.states.now a.marks.now in
+    let none = of-none w a.bytes.now (length a.out.now) a.out.now (no-marks w c.in-Some.ensures.0 c.in-Some-as_mut_array.ensures.cases.long c.in_default-as_mut_array-2.ensures.cases) in
+    record {
+      value = rw c.missing-in_default-as_mut_array-2.ensures none.answer-is;
+      states_after = c.in-Some-as_mut_array.ensures.cases.same ∙ ap (λ (v : Words). v.states) none.words-are;
+      marks_after = ap (λ (v : Words). v.marks) none.words-are;
+      out_after = none.buffer-is;
+    }
+
+pub invariant_of-scan_bank : goal.invariant_of-scan_bank
+invariant_of-scan_bank c =
+    let t = c.in-Some-as_mut_array.ensures.cases in
+    let m = c.in-Some-as_mut_array-2.ensures.cases in
+    record { states_long = ap length t.same ∙ t.long; marks_long = ap length m.same ∙ m.long }
+
+pub returns : goal.returns
+returns c =
+    let a = c.args in
+    let w : Words = words_in a.settings.now a.states.now a.marks.now in
+    let t = c.in-Some-as_mut_array.ensures.cases in
+    let m = c.in-Some-as_mut_array-2.ensures.cases in
+    let lent : words_in c.in-Some.settings.now c.in-Some-as_mut_array.states.now c.in-Some-as_mut_array-2.marks.now ≡ w =
+    λ i. words_in (c.in-Some.ensures.1 i) (t.same i) (m.same i) in
+    let fits = of-bank w a.bytes.now (length a.out.now) a.out.now (blocks-fit w c.in-Some.ensures.0 t.long m.long) in
+    let e = c.scan_bank.ensures in
+    let words = ap (λ (v : Words). bank_words v a.bytes.now (length a.out.now)) lent ∙ fits.words-are in
+    record {
+      value = e.value ∙ ap (λ (v : Words). bank_answer v a.bytes.now (length a.out.now)) lent ∙ fits.answer-is;
+      states_after = search rules ∙ (e.states_after ∙ ap (λ (v : Words). v.states) words);
+      marks_after = search rules ∙ (e.marks_after ∙ ap (λ (v : Words). v.marks) words);
+      out_after = e.out_after ∙ ap (λ (v : Words). event_buffer (bank_in v) a.bytes.now a.out.now) lent ∙ fits.buffer-is;
     }

@@ -2,7 +2,8 @@
 use mathlib.Core.Path.{◌≡◌, refl, sym, ◌∙◌, ap}
 use mathlib.Core.Bool.{Bool, false}
 use mathlib.Core.Logic.{inl, inr}
-use Prim.Native.Nat.{◌+◌, ◌<◌}
+use Prim.Native.Nat.{◌<◌}
+use native.Mathlib.Nat.{zero-add}
 use native.Mathlib.Numerals.{add-one}
 use native.Mathlib.Omega.{arith}
 use lib.ListN.{get_or, length}
@@ -21,10 +22,10 @@ loop-place-preserved g c =
     let l = c.loop-place in
     let b : Bool = get_or a.begins l.place false in
     let within : l.place < length a.begins = omega arith in
-    let next = next-start a.begins l.place a.time a.at a.states.now within in
-    let kept : c.if-row.states ≡ keep_start b a.time (a.at + l.place) l.states =
+    let next = next-start a.begins l.place a.time 0 a.starts.now within in
+    let kept : c.if-row.starts ≡ keep_start b a.time l.place l.starts =
     elim c.if-row.branch [
-      | then-row w ↦ start-kept b a.time (a.at + l.place) (inl (w.if-row.true, w.states-is))
-      | else-row w ↦ start-kept b a.time (a.at + l.place) (inr (w.if-row.false, w.states-is))
+      | then-row w ↦ start-kept b a.time l.place (inl (w.if-row.true, w.starts-is))
+      | else-row w ↦ start-kept b a.time l.place (inr (w.if-row.false, w.starts-is))
     ] in
-    rw add-one (kept ∙ ap (keep_start b a.time (a.at + l.place)) l.invariant ∙ sym next)
+    rw add-one (kept ∙ ap (keep_start b a.time l.place) l.invariant ∙ sym (rw zero-add at next))

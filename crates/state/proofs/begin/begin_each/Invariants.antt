@@ -5,4 +5,4 @@ use Rattle.state.specs.Internal.Starts.{keep_starts}
 use Rattle.state.proofs.begin.begin_each.Given as goal
 
 abbrev pub invariant-loop-place : goal.invariant-loop-place
-invariant-loop-place g l = l.states ≡ keep_starts (take l.place l.row-items) l.time l.at l.initial.states
+invariant-loop-place g l = l.starts ≡ keep_starts (take l.place l.row-items) l.time 0 l.initial.starts

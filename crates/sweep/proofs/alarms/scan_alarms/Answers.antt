@@ -9,11 +9,13 @@ use lib.Seq.{sets, length-sets}
 use Rattle.settings.specs.Counts.{in_all}
 use Rattle.settings.specs.declared.counts.Counts.{Counts}
 use Rattle.layout.specs.Internal.Block.{counts_in, count_in}
+use Rattle.scan_record.specs.Part.{offset_of}
 use Rattle.bank.specs.Lent.{Words}
 use Rattle.bank.specs.Internal.Words.{words_in}
+use Rattle.sweep.specs.Internal.Scan.{scan_words}
 use Rattle.sweep.specs.Internal.Sweep.{stepped_from, marked_from, log_from, words_after}
-use Rattle.sweep.proofs.Loops.{stepped-length, marked-length, log-grows}
-use Rattle.sweep.proofs.Halves.{digital-places, analog-places, half, states-long, states-whole, marks-whole, length_whole, out-whole}
+use Rattle.sweep.proofs.Loops.{log-grows}
+use Rattle.sweep.proofs.Halves.{digital-places, analog-places, half, states-whole, marks-whole, length_whole, out-whole}
 use Rattle.sweep.proofs.Room.{room_most}
 use Rattle.sweep.proofs.alarms.scan_alarms.Goals as goal
 
@@ -21,13 +23,13 @@ pub scan_form-half-requires : goal.scan_form-half-requires
 scan_form-half-requires c =
     let a = c.args in
     let r = c.requires.ready in
-    let rec : List ℕ = a.bytes.now in
-    let w : Words = words_in a.settings.now a.states.now a.marks.now in
-    let d : a.counts.digital ≡ (counts_in a.settings.now).digital = ap (λ (k : Counts). k.digital) r.counts-are in
+    let rec : List ℕ = a.scan.now.bytes.now in
+    let w : Words = scan_words a.scan.now a.kept.now in
+    let d : a.counts.digital ≡ (counts_in a.scan.now.settings.now).digital = ap (λ (k : Counts). k.digital) r.counts-are in
     let most = room_most w rec a.counts r.counts-are in
     record {
-      sizes = (omega (arith, r.most), r.states-long, r.marks-long);
-      parts = (c.get-time.ensures, omega arith, omega (arith, r.record-long));
+      few = omega (arith, r.most);
+      parts = (omega arith, omega (arith, r.record-long));
       have_form = rw (← d) (digital-places a.counts);
       room = omega (arith, log-grows w rec 0 a.counts.digital a.counts.analog, most, c.requires.room);
     }
@@ -37,34 +39,20 @@ scan_form-used-requires c =
     let e = c.scan_form-half.ensures in
     let a = c.args in
     let r = c.requires.ready in
-    let d : a.counts.digital ≡ (counts_in a.settings.now).digital = ap (λ (k : Counts). k.digital) r.counts-are in
-    let rec : List ℕ = a.bytes.now in
-    let w : Words = words_in a.settings.now a.states.now a.marks.now in
+    let d : a.counts.digital ≡ (counts_in a.scan.now.settings.now).digital = ap (λ (k : Counts). k.digital) r.counts-are in
+    let rec : List ℕ = a.scan.now.bytes.now in
+    let w : Words = scan_words a.scan.now a.kept.now in
     let log : length (log_from _ rec a.counts.digital a.counts.analog) ≡ length (log_from (half w rec a.counts.digital) rec a.counts.digital
     a.counts.analog) =
-    λ i. length (log_from (words_in a.settings.now (e.states_after i) (e.marks_after i)) rec a.counts.digital a.counts.analog) in
+    λ i. length (log_from (words_in a.scan.now.settings.now (e.states_after i) (e.marks_after i)) rec a.counts.digital a.counts.analog) in
     let most = room_most w rec a.counts r.counts-are in
     let out = ap length e.out_after ∙ length-sets a.out.now 0 (log_from w rec 0 a.counts.digital) in
     record {
-      sizes = (
-        omega (arith, r.most),
-        ap length e.states_after ∙ stepped-length w rec 0 a.counts.digital ∙ r.states-long,
-        ap length e.marks_after ∙ marked-length w rec 0 a.counts.digital ∙ r.marks-long,
-      );
-      parts = (c.get-time.ensures, rw (← d) (omega arith), omega (arith, r.record-long));
+      few = omega (arith, r.most);
+      parts = (c.analog_begin.ensures ∙ ap (λ (k : Counts). offset_of k a.counts.digital) r.counts-are, omega (arith, r.record-long, c.analog_begin.ensures));
       have_form = rw (← d) (analog-places a.counts);
       room = omega (arith, log, e.value, length_whole w rec a.counts.digital a.counts.analog, most, c.requires.room, out);
     }
-
-pub bounds-states-0 : goal.bounds-states-0
-bounds-states-0 c =
-    let a = c.args in
-    let e = c.scan_form-half.ensures in
-    let rec : List ℕ = a.bytes.now in
-    let w : Words = words_in a.settings.now a.states.now a.marks.now in
-    let then : words_in a.settings.now _ _ ≡ half w rec a.counts.digital = λ i. words_in a.settings.now (e.states_after i) (e.marks_after i) in
-    let states = c.scan_form-used.ensures.states_after ∙ ap (λ (v : Words). stepped_from v rec a.counts.digital a.counts.analog) then in
-    omega (arith, ap length states ∙ states-long w rec a.counts.digital a.counts.analog ∙ c.requires.ready.states-long)
 
 pub returns : goal.returns
 unfolding words_after
@@ -73,12 +61,12 @@ returns c =
     let e = c.scan_form-half.ensures in
     let a = c.args in
     let r = c.requires.ready in
-    let rec : List ℕ = a.bytes.now in
+    let rec : List ℕ = a.scan.now.bytes.now in
     let d = a.counts.digital in
-    let w : Words = words_in a.settings.now a.states.now a.marks.now in
-    let then : words_in a.settings.now _ _ ≡ half w rec d = λ i. words_in a.settings.now (e.states_after i) (e.marks_after i) in
+    let w : Words = scan_words a.scan.now a.kept.now in
+    let then : words_in a.scan.now.settings.now _ _ ≡ half w rec d = λ i. words_in a.scan.now.settings.now (e.states_after i) (e.marks_after i) in
     let log = ap (λ (v : Words). log_from v rec d a.counts.analog) then in
-    let n : d + a.counts.analog ≡ count_in a.settings.now = ap in_all r.counts-are in
+    let n : d + a.counts.analog ≡ count_in a.scan.now.settings.now = ap in_all r.counts-are in
     let used = zero-add (length (log_from w rec 0 d)) in
     let states = f.states_after ∙ ap (λ (v : Words). stepped_from v rec d a.counts.analog) then ∙ states-whole w rec d a.counts.analog
     ∙ ap (stepped_from w rec 0) n in
@@ -89,7 +77,8 @@ returns c =
           ∙ (λ i. (e.value ∙ used) i + length (log i))
           ∙ length_whole w rec d a.counts.analog
           ∙ ap (λ (k : ℕ). length (log_from w rec 0 k)) n;
-      states_after = (λ i. set (states i) 0 (c.get-time.ensures i));
+      same = (f.same.0 ∙ e.same.0, f.same.1 ∙ e.same.1);
+      states_after = (λ i. set (states i) 0 (a.scan.now.timed i));
       marks_after = marks;
       out_after = f.out_after
           ∙ (λ i. sets (e.out_after i) (e.value i) (log i))

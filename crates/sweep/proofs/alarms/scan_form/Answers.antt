@@ -13,9 +13,9 @@ use Rattle.scan_record.specs.Part.{offset_of}
 use Rattle.scan_record.specs.Internal.Size.{entry_size}
 use Rattle.scan_record.proofs.Entries.{offset-next}
 use Rattle.bank.specs.Lent.{Words}
-use Rattle.bank.specs.Internal.Words.{words_in}
+use Rattle.sweep.specs.Internal.Scan.{scan_words}
 use Rattle.sweep.specs.Internal.Sweep.{stepped_from, marked_from, log_from}
-use Rattle.sweep.proofs.Loops.{stepped-length, marked-length, log-none, length-next, log-grows, log-here, states-next, marks-next, out-next, part-fits}
+use Rattle.sweep.proofs.Loops.{log-none, length-next, log-grows, log-here, states-next, marks-next, out-next, part-fits}
 use Rattle.sweep.proofs.Loops.{part-next}
 use Rattle.sweep.proofs.alarms.scan_form.Goals as goal
 
@@ -25,54 +25,48 @@ loop-n-init c =
     let a = c.args in
     let f = a.first in
     let rec : List ℕ = a.scan.now.bytes.now in
-    let w : Words = words_in a.scan.now.settings.now a.states.now a.marks.now in
+    let w : Words = scan_words a.scan.now a.kept.now in
     record {
-      here = c.requires.parts.1 ∙ ap (offset_of (counts_in a.scan.now.settings.now)) (sym (add-zero f.place));
+      here = c.requires.parts.0 ∙ ap (offset_of (counts_in a.scan.now.settings.now)) (sym (add-zero f.place.index));
       parts = sym (ap (λ (k : ℕ). f.at + k) (mul-zero (entry_size f.form)) ∙ add-zero f.at);
-      written = sym (ap (λ (l : List ℕ). a.start + length l) (log-none w rec f.place) ∙ add-zero a.start);
+      written = sym (ap (λ (l : List ℕ). a.start + length l) (log-none w rec f.place.index) ∙ add-zero a.start);
+      same = (refl, refl);
       stepped = refl;
       marked = refl;
-      logged = sym (ap (sets a.out.now a.start) (log-none w rec f.place));
+      logged = sym (ap (sets a.out.now a.start) (log-none w rec f.place.index));
     }
 
 pub step_place-used-requires : goal.step_place-used-requires
 step_place-used-requires c =
     let l = c.loop-n in
     let a = c.args in
-    let p = a.first.place in
+    let p = a.first.place.index in
     let rec : List ℕ = a.scan.now.bytes.now in
-    let w : Words = words_in a.scan.now.settings.now a.states.now a.marks.now in
+    let w : Words = scan_words a.scan.now a.kept.now in
     let f = c.requires.have_form (p + l.n) (omega arith) (omega arith) in
-    let e = ap length (log-here w rec p l.n f l.invariant.here c.requires.parts.0 l.invariant.stepped) in
+    let e = ap length (log-here w rec p l.n f l.invariant.here a.scan.now.timed l.invariant.stepped) in
     let k : l.n + 1 + (a.count - (l.n + 1)) ≡ a.count = omega arith in
     let g = log-grows w rec p (l.n + 1) (a.count - (l.n + 1)) in
     let same = ap length l.invariant.logged ∙ length-sets a.out.now a.start (log_from w rec p l.n) in
     let total = ap (λ (n : ℕ). length (log_from w rec p n)) k in
     let next = length-next w rec p l.n in
-    let room = part-fits (entry_size a.first.form) l.n a.count (omega arith) in
-    record {
-      sizes = (
-        ap length l.invariant.stepped ∙ stepped-length w rec p l.n ∙ c.requires.sizes.1,
-        ap length l.invariant.marked ∙ marked-length w rec p l.n ∙ c.requires.sizes.2,
-      );
-      part = (
-        omega (arith, room, l.invariant.parts, c.requires.parts.2),
-        omega (arith, e, g, same, total, next, l.invariant.written, c.requires.room),
-      );
-    }
+    let room = part-fits (entry_size a.first.form) l.n a.count (omega arith) in (
+      omega (arith, room, l.invariant.parts, c.requires.parts.1),
+      omega (arith, e, g, same, total, next, l.invariant.written, c.requires.room),
+    )
 
 pub loop-n-preserved : goal.loop-n-preserved
 loop-n-preserved c =
     let l = c.loop-n in
     let q = c.step_place-used.ensures in
     let a = c.args in
-    let p = a.first.place in
+    let p = a.first.place.index in
     let counts = counts_in a.scan.now.settings.now in
     let rec : List ℕ = a.scan.now.bytes.now in
-    let w : Words = words_in a.scan.now.settings.now a.states.now a.marks.now in
+    let w : Words = scan_words a.scan.now a.kept.now in
     let f = c.requires.have_form (p + l.n) (omega arith) (omega arith) in
     let size = c.part_size-at.ensures in
-    let t = c.requires.parts.0 in
+    let t = a.scan.now.timed in
     let h = l.invariant.here in
     let s = l.invariant.stepped in
     let e = ap length (log-here w rec p l.n f h t s) in
@@ -82,6 +76,7 @@ loop-n-preserved c =
           ∙ ap (offset_of counts) place;
       parts = ap (λ (k : ℕ). l.at + k) size ∙ part-next a.first.at (entry_size a.first.form) l.n l.invariant.parts;
       written = omega (arith, q.value, e, l.invariant.written, length-next w rec p l.n);
+      same = (q.same.0 ∙ l.invariant.same.0, q.same.1 ∙ l.invariant.same.1);
       stepped = q.states_after ∙ states-next w rec p l.n f h t s;
       marked = q.marks_after ∙ marks-next w rec p l.n f h t s l.invariant.marked;
       logged = q.out_after ∙ out-next w rec p l.n f h t s a.out.now a.start l.invariant.logged l.invariant.written;

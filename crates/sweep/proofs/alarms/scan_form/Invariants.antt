@@ -7,19 +7,22 @@ use lib.Seq.{sets}
 use Rattle.layout.specs.Internal.Block.{counts_in}
 use Rattle.scan_record.specs.Part.{offset_of}
 use Rattle.scan_record.specs.Internal.Size.{entry_size}
-use Rattle.bank.specs.Internal.Words.{words_in}
+use Rattle.bank.specs.Internal.Blocks.{SameWords}
+use Rattle.sweep.specs.Internal.Scan.{scan_words}
 use Rattle.sweep.specs.Internal.Sweep.{stepped_from, marked_from, log_from}
 use Rattle.sweep.proofs.alarms.scan_form.Given as goal
 
 abbrev pub invariant-loop-n : goal.invariant-loop-n
 invariant-loop-n l =
-    let w = words_in l.scan.settings.now l.initial.states l.initial.marks in
+    let w = scan_words l.scan l.initial.kept in
+    let p = l.first.place.index in
     let rec = l.scan.bytes.now in
     record {
-      here : l.at ≡ offset_of (counts_in l.scan.settings.now) (l.first.place + l.n);
+      here : l.at ≡ offset_of (counts_in l.scan.settings.now) (p + l.n);
       parts : l.at ≡ l.first.at + entry_size l.first.form * l.n;
-      written : l.used ≡ l.start + length (log_from w rec l.first.place l.n);
-      stepped : l.states ≡ stepped_from w rec l.first.place l.n;
-      marked : l.marks ≡ marked_from w rec l.first.place l.n;
-      logged : l.out ≡ sets l.initial.out l.start (log_from w rec l.first.place l.n);
+      written : l.used ≡ l.start + length (log_from w rec p l.n);
+      same : SameWords l.initial.kept l.kept;
+      stepped : l.kept.states.now ≡ stepped_from w rec p l.n;
+      marked : l.kept.marks.now ≡ marked_from w rec p l.n;
+      logged : l.out ≡ sets l.initial.out l.start (log_from w rec p l.n);
     }

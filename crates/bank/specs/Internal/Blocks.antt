@@ -1,0 +1,13 @@
+-- The blocks of a bank, as code has them.
+use Rattle.std.specs.Prelude.{◌≡◌}
+use Rattle.bank.specs.Lent.{Words}
+use Rattle.bank.specs.declared.blocks.Blocks.{Blocks}
+use Rattle.bank.specs.declared.blocks.Kept.{Kept}
+use Rattle.bank.specs.Internal.Words.{words_in}
+
+abbrev pub words_of : Blocks → Words
+words_of b = words_in b.settings.now b.states.now b.marks.now
+
+-- what is kept is kept in the same words that were lent
+abbrev pub SameWords : Kept → Kept → Type 0
+SameWords before after = (after.states.ghost_name ≡ before.states.ghost_name) × (after.marks.ghost_name ≡ before.marks.ghost_name)
