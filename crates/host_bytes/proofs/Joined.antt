@@ -1,34 +1,42 @@
--- Laws of lists of one length, one after the other. Assumes nothing.
+-- Laws of lists of one length, one after the other, and the length of a report. Assumes nothing.
 use mathlib.Core.Path.{◌≡◌, refl, sym, ap, ◌∙◌}
-use mathlib.Core.List.{List, []}
-use Prim.Native.Nat.{ℕ, zero, suc, ◌+◌, ◌*◌}
-use native.Mathlib.Nat.{mul-zero, mul-suc}
+use mathlib.Core.List.{List, [], ◌∷◌, ◌++◌, map, append-nil}
+use Prim.Native.Nat.{ℕ, zero, suc, ◌*◌}
+use native.Mathlib.Nat.{mul-zero, mul-suc, zero-add}
 use native.Mathlib.Numerals.{add-one}
 use native.Mathlib.Omega.{arith}
 use lib.ListN.{length, length-append}
-use lib.Seq.{sets}
+use Rattle.std.specs.List.{flat_map, range_with_len}
+use Rattle.std.proofs.lemmas.Grind.{flat_map-append}
+use Rattle.std.proofs.lemmas.List.FromFn.{map-range_with_len_more}
+use Rattle.wire.proofs.Laws.{length-bytes}
 use Rattle.report.specs.declared.status.Status.{Status}
 use Rattle.report.specs.declared.report.AlarmReport.{AlarmReport}
-use Rattle.host_bytes.specs.Bytes.{row_bytes, whole_row, joined, condition_bytes, statuses_bytes, report_bytes}
-use Rattle.host_bytes.proofs.Stores.{then, length-row}
+use Rattle.host_bytes.specs.Bytes.{row_bytes, whole_row, status_row, joined, condition_bytes, statuses_bytes, report_bytes}
 
-pub joined-none : (f : ℕ → List ℕ) → joined f 0 ≡ []
+-- what is joined is the lists that f gives, flattened
+pub joined_is : (f : ℕ → List ℕ) (n : ℕ) → joined f n ≡ flat_map (λ x. x) (map f (range_with_len 0 n))
 unfolding joined
-joined-none f = refl
+joined_is f zero = refl
+joined_is f (suc n) =
+    let before = map f (range_with_len 0 n) in
+    ap (λ (l : List ℕ). l ++ f n) (joined_is f n) ∙ ap (λ (l : List ℕ). flat_map (λ x. x) before ++ l) (sym (append-nil (f n)))
+    ∙ sym (flat_map-append (λ x. x) before (f n ∷ [])) ∙ ap (flat_map (λ x. x)) (sym (map-range_with_len_more f 0 n n (zero-add n)))
+    ∙ ap (λ (k : ℕ). flat_map (λ x. x) (map f (range_with_len 0 k))) (add-one n)
 
-module _ (f : ℕ → List ℕ) (k : ℕ) (each : (i : ℕ) → length (f i) ≡ k) where
-  pub length-joined : (n : ℕ) → length (joined f n) ≡ k * n
-  unfolding joined
-  length-joined zero = sym (mul-zero k)
-  length-joined (suc n) = omega (arith, length-append (joined f n) (f n), length-joined n, each n, mul-suc k n)
+pub length-joined : (f : ℕ → List ℕ) (k : ℕ) → ((i : ℕ) → length (f i) ≡ k) → (n : ℕ) → length (joined f n) ≡ k * n
+unfolding joined
+length-joined f k each zero = sym (mul-zero k)
+length-joined f k each (suc n) = omega (arith, length-append (joined f n) (f n), length-joined f k each n, each n, mul-suc k n)
 
-  -- the next one behind those that stand
-  pub joined-next : (l : List ℕ) (at n : ℕ) → sets (sets l at (joined f n)) (at + k * n) (f n) ≡ sets l at (joined f (n + 1))
-  unfolding joined
-  joined-next l at n = then l at (joined f n) (f n) (at + k * n) (ap (λ (m : ℕ). at + m) (sym (length-joined n))) ∙ rw (add-one n)
+-- a row of a report has 32 bytes
+length-whole : (r : AlarmReport) → length (row_bytes (whole_row r.alarm r.resettime)) ≡ 32
+unfolding row_bytes
+length-whole r = simp (length-append, length-bytes)
 
-pub length-statuses : (cs : List Status) → length (statuses_bytes cs) ≡ 192
-length-statuses cs = length-joined (λ i. condition_bytes cs i) 32 (λ i. length-row _) 6
+length-status : (s : Status) → length (row_bytes (status_row s)) ≡ 32
+unfolding row_bytes
+length-status s = simp (length-append, length-bytes)
 
 pub length-report : (r : AlarmReport) → length (report_bytes r) ≡ 224
 unfolding report_bytes
@@ -36,14 +44,6 @@ length-report r =
     omega (
       arith,
       length-append (row_bytes (whole_row r.alarm r.resettime)) (statuses_bytes r.conditions),
-      length-row (whole_row r.alarm r.resettime),
-      length-statuses r.conditions,
+      length-whole r,
+      length-joined (condition_bytes r.conditions) 32 (λ i. length-status _) 6,
     )
-
--- the row of the whole alarm, then its conditions
-pub report-stores : (r : AlarmReport) (l : List ℕ) (at : ℕ)
-    → sets (sets l at (row_bytes (whole_row r.alarm r.resettime))) (at + 32) (statuses_bytes r.conditions) ≡ sets l at (report_bytes r)
-unfolding report_bytes
-report-stores r l at =
-    then l at (row_bytes (whole_row r.alarm r.resettime)) (statuses_bytes r.conditions) (at + 32)
-    (ap (λ (m : ℕ). at + m) (sym (length-row (whole_row r.alarm r.resettime))))

@@ -1,2 +1,2 @@
-pub mod Stores
+pub mod Mapped
 pub mod Joined

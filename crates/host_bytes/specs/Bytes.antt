@@ -1,5 +1,6 @@
 -- The report of an alarm as bytes: rows of 32.
-use Rattle.std.specs.Prelude.{ℕ, zero, suc, ◌%◌, ◌^◌, Bool, false, cond, List, [], ◌∷◌, ◌++◌, get_or}
+use Rattle.std.specs.Prelude.{ℕ, zero, suc, ◌%◌, ◌^◌, Bool, false, cond, List, [], ◌∷◌, ◌++◌, get_or, map}
+use Rattle.std.specs.List.{flat_map}
 use Rattle.std.specs.Float.{binary32}
 use Rattle.std.specs.Float.Ieee.{to_bits}
 use Rattle.wire.specs.Number.{bytes}
@@ -12,38 +13,26 @@ use Rattle.host_bytes.specs.declared.rows.Row.{Row}
 abbrev pub flag : Bool → ℕ
 flag b = cond b 1 0
 
--- 32 bytes: four flags, a number of four bytes, three of eight
+-- 32 bytes: four flags, a number of four bytes, three times of eight
 unfoldable pub row_bytes : Row → List ℕ
-row_bytes w =
-    flag w.one ∷ flag w.two ∷ flag w.three ∷ flag w.four
-    ∷ (bytes 4 w.number ++ (bytes 8 w.first ++ (bytes 8 w.second ++ bytes 8 w.third)))
+row_bytes w = map flag w.flags ++ (bytes 4 w.number ++ flat_map (bytes 8) w.times)
 
 -- of a whole alarm: enabled, suppressed, InFaulted, SeverityInv; the rate's bit pattern; count reset stamp, elapsed runs
 abbrev pub whole_row : Whole → ℕ → Row
 whole_row w reset =
     record {
-      one = w.enabled;
-      two = w.suppressed;
-      three = w.infaulted;
-      four = w.severityinv;
+      flags = w.enabled ∷ w.suppressed ∷ w.infaulted ∷ w.severityinv ∷ [];
       number = to_bits binary32 w.rate;
-      first = reset;
-      second = w.high;
-      third = w.low;
+      times = reset ∷ w.high ∷ w.low ∷ [];
     }
 
 -- of a condition: in alarm, acknowledged, two zero bytes; the count's lowest four bytes; alarm, ack and return stamp
 abbrev pub status_row : Status → Row
 status_row s =
     record {
-      one = s.alarm;
-      two = s.acked;
-      three = false;
-      four = false;
+      flags = s.alarm ∷ s.acked ∷ false ∷ false ∷ [];
       number = s.count % 2 ^ 32;
-      first = s.alarmtime;
-      second = s.acktime;
-      third = s.returntime;
+      times = s.alarmtime ∷ s.acktime ∷ s.returntime ∷ [];
     }
 
 -- the lists that f gives for 0 to n - 1, one after the other

@@ -1,6 +1,7 @@
 -- The calls of a host: the number of a refusal as the result, and an answer in words. An answer that is too short is refused by 40, and a
 -- report buffer that is too short by 41; everything stays then.
 use Rattle.std.specs.Prelude.{ℕ, Bool, cond, List, [], ◌∷◌, ltb, length, Option, None, Some, Result, Ok, Err, ⊤}
+use Rattle.std.specs.Result.{is_ok}
 use Rattle.std.proofs.lemmas.List.Edits.{sets}
 use Rattle.settings.specs.Internal.Replies.{number_of}
 use Rattle.settings.specs.declared.refusals.Refusal.{Refusal}
@@ -53,12 +54,8 @@ replay_words (Ok t) = tally_words t.events t.refused t.first
 replay_words (Err r) = 0 ∷ 0 ∷ number_of r.reason ∷ r.place ∷ 0 ∷ []
 
 -- report: the 224 bytes of an accepted one
-abbrev pub on_said : {X : Type 0} → Result ⊤ Refusal → X → X → X
-on_said (Ok accepted) x y = x
-on_said (Err r) x y = y
-
 abbrev pub report_out : AlarmReport → List ℕ → List ℕ
-report_out said out = on_said said.reply (sets out 0 (report_bytes said)) out
+report_out said out = cond (is_ok said.reply) (sets out 0 (report_bytes said)) out
 
 abbrev pub report_code : ℕ → ℕ → AlarmReport → ℕ
 report_code words room said = cond (ltb words 2) 40 (cond (ltb room 224) 41 (number_in said.reply))

@@ -7,7 +7,7 @@ ghost use Rattle.meifgur_c.specs.Calls.{unless, short_answer, reply_words, repor
 
 use crate::answers::{REPORT_ANSWER, SHORT_ANSWER, SHORT_REPORT, number_in, reply_words};
 use host_bytes::answer::put_words;
-use host_bytes::rows::{REPORT_SIZE, put_report};
+use host_bytes::rows::{REPORT_SIZE, report_bytes};
 use report::report::{AlarmReport, report};
 
 // Writes an accepted report; a refused one leaves every byte.
@@ -16,7 +16,7 @@ fn put_said(out: &mut [u8], said: AlarmReport)
     ensures { out.new ≡ report_out said out.old }
 {
     if said.reply.is_ok() {
-        put_report(out, 0, said);
+        out[..REPORT_SIZE].copy_from_slice(&report_bytes(said));
     }
 }
 
