@@ -1,6 +1,6 @@
 -- The calls of a host: the number of a refusal as the result, and an answer in words. An answer that is too short is refused by 40, and a
 -- report buffer that is too short by 41; everything stays then.
-use Rattle.std.specs.Prelude.{ℕ, Bool, cond, List, [], ◌∷◌, ltb, length, Option, None, Some, Result, Ok, Err, ⊤}
+use Rattle.std.specs.Prelude.{ℕ, Bool, cond, List, [], ◌∷◌, ◌++◌, ltb, length, Option, None, Some, Result, Ok, Err, ⊤}
 use Rattle.std.specs.Result.{is_ok}
 use Rattle.std.proofs.lemmas.List.Edits.{sets}
 use Rattle.settings.specs.Internal.Replies.{number_of}
@@ -27,14 +27,17 @@ abbrev pub number_in : {A : Type 0} → Result A Refusal → ℕ
 number_in (Ok x) = 0
 number_in (Err r) = number_of r.reason
 
+abbrev pub refusal_words : Refusal → List ℕ
+refusal_words r = number_of r.reason ∷ r.place ∷ []
+
 abbrev pub reply_words : Result ⊤ Refusal → List ℕ
 reply_words (Ok x) = 0 ∷ 0 ∷ []
-reply_words (Err r) = number_of r.reason ∷ r.place ∷ []
+reply_words (Err r) = refusal_words r
 
 -- load: the numbers of digital and of analog alarms, 0 of a refused image
 abbrev pub load_words : Result ⊤ Refusal → Counts → List ℕ
 load_words (Ok x) counts = 0 ∷ 0 ∷ counts.digital ∷ counts.analog ∷ []
-load_words (Err r) counts = number_of r.reason ∷ r.place ∷ 0 ∷ 0 ∷ []
+load_words (Err r) counts = refusal_words r ++ 0 ∷ 0 ∷ []
 
 abbrev pub load_answer : Result ⊤ Refusal → List ℕ → List ℕ
 load_answer reply settings = load_words reply (counts_in settings)
@@ -42,16 +45,16 @@ load_answer reply settings = load_words reply (counts_in settings)
 -- scan: the number of events; write: the length of the image
 abbrev pub counted_words : Result ℕ Refusal → List ℕ
 counted_words (Ok n) = 0 ∷ 0 ∷ n ∷ []
-counted_words (Err r) = number_of r.reason ∷ r.place ∷ 0 ∷ []
+counted_words (Err r) = refusal_words r ++ 0 ∷ []
 
 -- replay: how many events and refused records there are, and number, place and index of the first refusal; of words that are no bank, that refusal
 abbrev pub tally_words : ℕ → ℕ → Option FirstRefusal → List ℕ
 tally_words events refused None = events ∷ refused ∷ 0 ∷ 0 ∷ 0 ∷ []
-tally_words events refused (Some f) = events ∷ refused ∷ number_of f.refusal.reason ∷ f.refusal.place ∷ f.index ∷ []
+tally_words events refused (Some f) = events ∷ refused ∷ refusal_words f.refusal ++ f.index ∷ []
 
 abbrev pub replay_words : Result Tally Refusal → List ℕ
 replay_words (Ok t) = tally_words t.events t.refused t.first
-replay_words (Err r) = 0 ∷ 0 ∷ number_of r.reason ∷ r.place ∷ 0 ∷ []
+replay_words (Err r) = 0 ∷ 0 ∷ refusal_words r ++ 0 ∷ []
 
 -- report: the 224 bytes of an accepted one
 abbrev pub report_out : AlarmReport → List ℕ → List ℕ

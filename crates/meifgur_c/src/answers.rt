@@ -1,6 +1,6 @@
 // What a call answers: the number of a refusal as the result, and words. `as` stays here: no From stands between usize and u64.
 ghost use Rattle.std.specs.Prelude.{◌≡◌};
-ghost use Rattle.meifgur_c.specs.Calls.{number_in, reply_words, counted_words, load_words, replay_words};
+ghost use Rattle.meifgur_c.specs.Calls.{number_in, refusal_words, reply_words, counted_words, load_words, replay_words};
 
 use replay::replay::Tally;
 use settings::counts::Counts;
@@ -35,13 +35,20 @@ pub fn number_in<T: Copy>(answer: Result<T, Refusal>) -> u32
     }
 }
 
-// Number and place of a refusal, or 0 and 0.
+// Number and place of a refusal.
+fn refusal_words(refusal: Refusal) -> [u64; 2]
+    ensures { result ≡ refusal_words refusal }
+{
+    [u64::from(refusal.reason.number()), refusal.place as u64]
+}
+
+// The same, or 0 and 0.
 pub fn reply_words(reply: Result<(), Refusal>) -> [u64; REPORT_ANSWER]
     ensures { result ≡ reply_words reply }
 {
     match reply {
         Ok(()) => [0, 0],
-        Err(refusal) => [u64::from(refusal.reason.number()), refusal.place as u64],
+        Err(refusal) => refusal_words(refusal),
     }
 }
 
@@ -51,12 +58,10 @@ pub fn load_words(reply: Result<(), Refusal>, counts: Counts) -> [u64; LOAD_ANSW
 {
     match reply {
         Ok(()) => [0, 0, counts.digital as u64, counts.analog as u64],
-        Err(refusal) => [
-            u64::from(refusal.reason.number()),
-            refusal.place as u64,
-            0,
-            0,
-        ],
+        Err(refusal) => {
+            let [number, place] = refusal_words(refusal);
+            [number, place, 0, 0]
+        }
     }
 }
 
@@ -66,7 +71,10 @@ pub fn counted_words(answer: Result<usize, Refusal>) -> [u64; SCAN_ANSWER]
 {
     match answer {
         Ok(number) => [0, 0, number as u64],
-        Err(refusal) => [u64::from(refusal.reason.number()), refusal.place as u64, 0],
+        Err(refusal) => {
+            let [number, place] = refusal_words(refusal);
+            [number, place, 0]
+        }
     }
 }
 
@@ -80,21 +88,15 @@ pub fn replay_words(answer: Result<Tally, Refusal>) -> [u64; REPLAY_ANSWER]
             let refused = done.refused as u64;
             match done.first {
                 None => [events, refused, 0, 0, 0],
-                Some(first) => [
-                    events,
-                    refused,
-                    u64::from(first.refusal.reason.number()),
-                    first.refusal.place as u64,
-                    first.index as u64,
-                ],
+                Some(first) => {
+                    let [number, place] = refusal_words(first.refusal);
+                    [events, refused, number, place, first.index as u64]
+                }
             }
         }
-        Err(refusal) => [
-            0,
-            0,
-            u64::from(refusal.reason.number()),
-            refusal.place as u64,
-            0,
-        ],
+        Err(refusal) => {
+            let [number, place] = refusal_words(refusal);
+            [0, 0, number, place, 0]
+        }
     }
 }
