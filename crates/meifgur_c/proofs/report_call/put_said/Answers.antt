@@ -23,4 +23,5 @@ returns-then-is_ok c =
     let long : length bytes ≡ 224 = search rules in
     let ok : is_ok a.said.reply ≡ true = search rules in
     rw (ok, c.copy_from_slice.ensures.after)
-    (ap (λ (k : ℕ). bytes ++ drop k a.out.now) (sym long) ∙ front-put a.out.now bytes (omega (arith, c.requires, long)) ∙ ap (sets a.out.now 0) c.report_bytes.ensures)
+    (ap (λ (k : ℕ). bytes ++ drop k a.out.now) (sym long) ∙ front-put a.out.now bytes (omega (arith, c.requires, long))
+    ∙ ap (sets a.out.now 0) c.report_bytes.ensures)
