@@ -1,6 +1,8 @@
 // A program's input and output. What waits for output is written before more input is read, so that a caller who sends one piece and
 // waits gets its answer, and many pieces that came at once are answered in one write.
-ghost use Rattle.std.specs.Prelude.{OnOk, vec_len, ◌+◌, ◌≤◌};
+ghost use Rattle.std.specs.Prelude.{OnOk, IfOk, IfErr, IsErr, [], vec_len, ◌≡◌, ◌+◌, ◌≤◌};
+ghost use Rattle.std.specs.Io.Buffered.{reader_buffer, reader_inner, writer_buffer, writer_inner};
+ghost use Rattle.text.specs.Internal.Failure.{IsOfMemory, IsOfOutput};
 
 use crate::failure::Failure;
 use crate::pieces::{LONGEST_LINE, Pieces};
@@ -17,7 +19,12 @@ pub struct Console<R: Read + Drop, W: Write + Drop> {
 }
 
 impl<R: Read + Drop, W: Write + Drop> Console<R, W> {
-    pub fn new(alloc: Global, input: R, output: W) -> Result<Console<R, W>, Failure> {
+    // Nothing is read and nothing waits. It fails for memory alone.
+    pub fn new(alloc: Global, input: R, output: W) -> Result<Console<R, W>, Failure>
+        ensures input { IfOk result (λ console. (reader_inner console.input ≡ input) × (reader_buffer console.input ≡ [])) }
+        ensures output { IfOk result (λ console. (writer_inner console.output ≡ output) × (writer_buffer console.output ≡ [])) }
+        ensures err { IfErr result (λ failure. IsOfMemory failure) }
+    {
         let input = BufReader::with_capacity(alloc, BUFFER_SIZE, input).map_err(Failure::Memory)?;
         let output = BufWriter::with_capacity(alloc, BUFFER_SIZE, output).map_err(Failure::Memory)?;
         Ok(Console { input, output })
@@ -33,8 +40,8 @@ impl<R: Read + Drop, W: Write + Drop> Console<R, W> {
     }
 
     // Puts the next piece into `piece`, and answers whether it is whole: the last one ends with the input, and is no piece if it is
-    // empty. Of a line that is too long one byte more than the longest is kept. A proved loop has to end, and nothing says that an
-    // input does, so it counts its turns.
+    // empty. The piece is lent, as to std's `read_until`, so that one block of memory serves all pieces. Of a line that is too long one
+    // byte more than the longest is kept. A proved loop has to end, and nothing says that an input does, so it counts its turns.
     fn read_piece(&mut self, pieces: Pieces, piece: &mut Vec<u8>) -> Result<bool, Failure>
         ensures { OnOk result (vec_len piece.new ≤ LONGEST_LINE + 1) }
     {
@@ -56,7 +63,8 @@ impl<R: Read + Drop, W: Write + Drop> Console<R, W> {
         Ok(false)
     }
 
-    // Answers each piece of the input in order. The answers to what came last wait in `output`.
+    // Answers each piece of the input in order. The answers to what came last wait in `output`. What `answer` does with a piece is the
+    // caller's to say, and nothing says that an input ends, so no clause promises anything.
     pub fn answer_pieces<F>(
         &mut self,
         alloc: Global,
@@ -82,7 +90,10 @@ impl<R: Read + Drop, W: Write + Drop> Console<R, W> {
 
     // Ends a program's input: what waits is written. After a write that failed nothing is written any more, as a buffer that is dropped
     // would try.
-    pub fn end(self, outcome: Result<(), Failure>) -> Result<(), Failure> {
+    pub fn end(self, outcome: Result<(), Failure>) -> Result<(), Failure>
+        ensures failed { IsErr outcome → result ≡ outcome }
+        ensures ok { outcome ≡ Ok tt → IfErr result (λ failure. IsOfOutput failure) }
+    {
         let Console {
             input: _,
             mut output,

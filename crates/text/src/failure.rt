@@ -20,7 +20,8 @@ impl From<AllocError> for Failure {
     }
 }
 
-// Tells standard error why the program ended. Nothing is left to tell where that fails too.
+// Tells standard error why the program ended. Nothing is left to tell where that fails too. It has no clause, since std's `Eprint`
+// promises nothing of what was printed.
 pub fn tell(rt: &impl Eprint, outcome: Result<(), Failure>) {
     if let Err(failure) = outcome {
         let _ = eprintln!(rt; "{failure}");
