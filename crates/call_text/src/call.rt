@@ -1,5 +1,5 @@
 // A line of text as a call.
-ghost use Rattle.std.specs.Prelude.{◌≡◌, ◌<◌, ◌≤◌, ◌↔◌, length, IfOk, IsErrOf};
+ghost use Rattle.std.specs.Prelude.{◌≡◌, ◌<◌, ◌≤◌, ◌↔◌, None, length, IfOk, IsErrOf};
 ghost use Rattle.call_text.specs.Internal.Call.{IsComment, room_of};
 
 use crate::fault::{BadLine, Fault};
@@ -15,24 +15,18 @@ pub enum Call {
     Write { room: usize },
 }
 
-#[derive(Debug, Drop, PartialEq, Eq)]
-pub enum Line {
-    // An empty line, or one that begins with `#`: it asks for nothing.
-    Comment,
-    Call(Call),
-}
-
-// Reads a line: the name of a call, and a word for each thing that it hands on.
-pub fn parse(alloc: Global, line: &[u8]) -> Result<Line, BadLine>
+// Reads a line: the name of a call, and a word for each thing that it hands on. An empty line, or one that begins with `#`, is a comment:
+// it asks for nothing.
+pub fn parse(alloc: Global, line: &[u8]) -> Result<Option<Call>, BadLine>
     ensures too_long { LONGEST_LINE < length line.now → IsErrOf result BadLine.TooLong }
-    ensures comment { (result ≡ Ok Line.Comment) ↔ ((length line.now ≤ LONGEST_LINE) × IsComment line.now) }
+    ensures comment { (result ≡ Ok None) ↔ ((length line.now ≤ LONGEST_LINE) × IsComment line.now) }
     ensures room { IfOk result (λ asked. room_of asked ≤ 65536) }
 {
     if LONGEST_LINE < line.len() {
         return Err(BadLine::TooLong);
     }
     if let [] | [b'#', ..] = line {
-        return Ok(Line::Comment);
+        return Ok(None);
     }
     let mut words = Words::new(line);
     let call = match words.next_word() {
@@ -56,7 +50,7 @@ pub fn parse(alloc: Global, line: &[u8]) -> Result<Line, BadLine>
         _ => return Err(words.bad(Fault::NoCall)),
     };
     words.end()?;
-    Ok(Line::Call(call))
+    Ok(Some(call))
 }
 
 #[cfg(test)]

@@ -1,16 +1,15 @@
 -- What a line asks for.
-use Rattle.std.specs.Prelude.{◌≡◌, ℕ, ◌<◌, ◌⊎◌, List, [], length, slice_index}
+use Rattle.std.specs.Prelude.{◌≡◌, ℕ, ◌<◌, ◌⊎◌, List, [], length, slice_index, Option, None, Some}
+use Rattle.call_text.specs.declared.call.Call.{Call}
 use Rattle.call_text.specs.declared.call.Call.TheVariants.{Settings, Scan, Report, Write}
-use Rattle.call_text.specs.declared.call.Line.{Line}
-use Rattle.call_text.specs.declared.call.Line.TheVariants.{Comment, Call as Asks}
 
 -- how many bytes the buffer has that it lends
-abbrev pub room_of : Line → ℕ
-room_of Comment = 0
-room_of (Asks (Settings image)) = 0
-room_of (Asks (Scan room bytes)) = room
-room_of (Asks (Report alarm)) = 0
-room_of (Asks (Write room)) = room
+abbrev pub room_of : Option Call → ℕ
+room_of None = 0
+room_of (Some (Settings image)) = 0
+room_of (Some (Scan room bytes)) = room
+room_of (Some (Report alarm)) = 0
+room_of (Some (Write room)) = room
 
 -- an empty line, or one that begins with #, which is 35
 abbrev pub IsComment : List ℕ → Type 0
