@@ -19,6 +19,7 @@ impl fmt::Display for Written<'_> {
         if self.bytes.is_empty() {
             write!(f, "-")?;
         }
+        // The crate `hex` would take memory for the text, its own or a caller's.
         for byte in self.bytes {
             write!(f, "{byte:02x}")?;
         }

@@ -1,5 +1,7 @@
 // Calls run on a bank, and answered.
-ghost use Rattle.std.specs.Prelude.{◌≡◌, ◌≤◌, [], ◌∷◌, IfOk, length, vec_len};
+ghost use Rattle.std.specs.Prelude.{◌≡◌, ◌<◌, ◌≤◌, ◌⊎◌, ◌++◌, [], ◌∷◌, IfOk, OnOk, length, vec_len};
+ghost use Rattle.std.specs.Io.KnownBytes.{Appends};
+ghost use Rattle.call_text.specs.Internal.Call.{IsComment};
 ghost use Rattle.bank.specs.Internal.Load.{load_words};
 ghost use Rattle.bank_text.specs.Internal.Owned.{words_of, blank_words};
 
@@ -7,7 +9,7 @@ use crate::lent::Pattern;
 use crate::reply::{Report, Written};
 use bank_text::owned::Bank;
 use bank_text::show::Refused;
-use call_text::call::{Call, Line, parse};
+use call_text::call::{Call, parse};
 use call_text::fault::{BadLine, MOST_ROOM};
 use event::write::EVENT_SIZE;
 use settings::refusals::Refusal;
@@ -15,6 +17,7 @@ use std::alloc::{AllocError, Global};
 use std::io;
 use std::io::Write;
 use text::failure::Failure;
+use text::pieces::LONGEST_LINE;
 
 // A bank under calls, and what the buffers of the calls are filled with.
 #[derive(Drop)]
@@ -37,11 +40,17 @@ impl Session {
         })
     }
 
-    // Runs and answers a line.
-    pub fn answer_line<W: Write>(&mut self, line: &[u8], output: &mut W) -> Result<(), Failure> {
+    // Runs and answers a line. A comment is answered by itself, and neither it nor a line that is too long changes anything. No clause says
+    // what other lines write, since no reply states the bytes of its text.
+    pub fn answer_line<W: Write>(&mut self, line: &[u8], output: &mut W) -> Result<(), Failure>
+        ensures comment { length line.now ≤ LONGEST_LINE → IsComment line.now
+            → OnOk result (Appends (W.contents output.old) (W.contents output.new) (line.now ++ 10 ∷ [])) }
+        ensures unchanged { (LONGEST_LINE < length line.now) ⊎ IsComment line.now → self.new ≡ self.old }
+        ensures pattern { self.new.pattern ≡ self.old.pattern }
+    {
         match parse(self.alloc, line) {
-            Ok(Line::Comment) => output.write_all(line)?,
-            Ok(Line::Call(call)) => self.answer_call(call, output)?,
+            Ok(None) => output.write_all(line)?,
+            Ok(Some(call)) => self.answer_call(call, output)?,
             Err(BadLine::Memory(error)) => return Err(Failure::from(error)),
             Err(bad) => write!(output, "{bad}")?,
         }
@@ -49,7 +58,9 @@ impl Session {
         Ok(())
     }
 
-    fn answer_call<W: Write>(&mut self, call: Call, output: &mut W) -> Result<(), Failure> {
+    fn answer_call<W: Write>(&mut self, call: Call, output: &mut W) -> Result<(), Failure>
+        ensures { self.new.pattern ≡ self.old.pattern }
+    {
         match call {
             Call::Settings { image } => match self.bank.load(&image) {
                 Ok(()) => write!(output, "ok {}", self.bank.alarms())?,
