@@ -1,4 +1,7 @@
 // The settings image from its file.
+ghost use Rattle.std.specs.Prelude.{IfErr};
+ghost use Rattle.text.specs.Internal.Failure.{IsOfMemory};
+
 use std::fs::File;
 use std::io;
 use std::io::{ErrorKind, Read};
@@ -10,11 +13,10 @@ use text::failure::Failure;
 const IMAGE_SIZE: u64 = 1024;
 
 // The front of a file. A missing file counts as no bytes. Of one that can't be opened or read, what was read before counts; standard
-// error then has the reason.
-pub fn read_image(
-    rt: &(impl Files + AllocGlobal + Eprint),
-    name: &str,
-) -> Result<Vec<u8>, Failure> {
+// error then has the reason. It fails for memory alone. No clause bounds what is read, since std says what `take` leaves of known bytes only.
+pub fn read_image(rt: &(impl Files + AllocGlobal + Eprint), name: &str) -> Result<Vec<u8>, Failure>
+    ensures { IfErr result (λ failure. IsOfMemory failure) }
+{
     let mut image = Vec::new(rt.alloc());
     let outcome = match File::open(rt, name) {
         Ok(file) => file.take(IMAGE_SIZE).read_to_end(&mut image),

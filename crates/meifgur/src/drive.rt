@@ -22,7 +22,7 @@ fn answer_record<W: Write>(bank: &mut Bank, record: &[u8], output: &mut W) -> Re
 }
 
 // Makes a bank of a settings image, runs the records of an input on it, and writes how each condition stands at the end. An input that
-// fails has no end, and nothing is written then.
+// fails has no end, and nothing is written then. No clause can say what was written, since the output does not come back.
 pub fn drive<R: Read + Drop, W: Write + Drop>(
     alloc: Global,
     image: &[u8],

@@ -1,0 +1,2 @@
+-- What contracts and proofs use and a reader need not believe.
+pub mod Show
