@@ -20,8 +20,12 @@ loop-condition-preserved g c =
     it.b.rest.now new.b.rest.now c.in-Some.ensures.steps in
     let done = now.invariant.0 in
     let wrote = now.invariant.1 in
-    let left = now.invariant.2 in
-    (done ++ line, Appends-trans _ _ _ done line wrote c.in_ok-writeln.ensures.bytes, rw append_assoc (sym (ap (λ (text : List ℕ). done ++ text) next) ∙ left), refl)
+    let left = now.invariant.2 in (
+      done ++ line,
+      Appends-trans _ _ _ done line wrote c.in_ok-writeln.ensures.bytes,
+      rw append_assoc (sym (ap (λ (text : List ℕ). done ++ text) next) ∙ left),
+      refl,
+    )
 
 pub returns : goal.returns
 returns g c =
