@@ -5,7 +5,7 @@ use mathlib.Core.Bool.{Bool, true, false, cond}
 use Prim.Native.Nat.{ℕ, zero, suc, ◌+◌, ◌*◌, ◌-◌, ◌/◌, ◌%◌, ◌^◌, ◌≤◌, ◌<◌}
 use native.Mathlib.Nat.{pow-succ', mul_assoc}
 use native.Mathlib.Omega.{arith}
-use borrow.Author.Tests.{eq-eqb, ne_eqb}
+use borrow.Author.Tests.{eq-eqb}
 use lib.ListN.{length, length-append}
 use lib.Seq.{sets}
 use Rattle.wire.specs.Number.{bytes}
@@ -63,9 +63,6 @@ event-bytes e a c k s = rw (head_bytes e.alarm e.condition e.kind e.suppressed e
 module _ (time : ℕ) where
   pub bit-set : (head word : ℕ) → word % 2 ≡ 1 → record_of time head word ≡ bytes 8 head ++ bytes 8 time
   bit-set head word h = rw (eq-eqb (word % 2) 1 h)
-
-  pub bit-clear : (head word : ℕ) → (word % 2 ≡ 1 → ⊥) → record_of time head word ≡ []
-  bit-clear head word h = rw (ne_eqb (word % 2) 1 h)
 
   pub length-record : (head : ℕ) → length (bytes 8 head ++ bytes 8 time) ≡ 16
   length-record head = omega (arith, length-append (bytes 8 head) (bytes 8 time), length-bytes 8 head, length-bytes 8 time)

@@ -3,7 +3,6 @@ use mathlib.Core.List.{List, [], ◌∷◌, ◌++◌, append-nil}
 use mathlib.Core.Path.{◌≡◌, refl, sym, ap, ◌∙◌}
 use Prim.Native.Nat.{ℕ, zero, suc, ◌+◌, ◌*◌, ◌≤◌, ◌<◌}
 use native.Mathlib.Nat.{add-zero, zero-add}
-use native.Mathlib.Numerals.{add-one}
 use native.Mathlib.Omega.{arith}
 use lib.ListN.{length, get_or, set, take, drop, drop_of_length-le, length-set, length-append, length-replicate, replicate}
 use Rattle.std.proofs.lemmas.List.{append_assoc}
@@ -72,13 +71,6 @@ alarm-above form ws i vs at h = alarm-same ws (sets ws i vs) at at (λ k m. get_
 pub alarm-below : (form : Form) (ws : List ℕ) (i : ℕ) (vs : List ℕ) (at : ℕ) → at + 8 ≤ i → alarm_in form (sets ws i vs) at ≡ alarm_in form ws at
 alarm-below form ws i vs at h = alarm-same ws (sets ws i vs) at at (λ k m. get_or-below ws i vs (at + k) 0 (omega arith)) form
 
--- the same of one store
-pub alarm-set-above : (form : Form) (ws : List ℕ) (i v at : ℕ) → i < at → alarm_in form (set ws i v) at ≡ alarm_in form ws at
-alarm-set-above form ws i v at h = alarm-above form ws i (v ∷ []) at (omega arith)
-
-pub alarm-set-below : (form : Form) (ws : List ℕ) (i v at : ℕ) → at + 8 ≤ i → alarm_in form (set ws i v) at ≡ alarm_in form ws at
-alarm-set-below form ws i v at h = alarm-below form ws i (v ∷ []) at h
-
 -- eight words that were stored say what they say by themselves
 pub alarm-stored : (form : Form) (ws : List ℕ) (at : ℕ) (vs : List ℕ) → at + 8 ≤ length ws → length vs ≡ 8 → alarm_in form (sets ws at vs) at ≡ alarm_in form vs 0
 alarm-stored form ws at vs h n =
@@ -140,10 +132,6 @@ length-settings s h =
 
 -- ---- an alarm at another place
 
-pub place-above : (form : Form) (ws : List ℕ) (n p : ℕ) (a : Alarm) → n < p
-    → alarm_in form (sets ws (alarm_at n) (alarm_words a)) (alarm_at p) ≡ alarm_in form ws (alarm_at p)
-place-above form ws n p a h = alarm-above form ws (alarm_at n) (alarm_words a) (alarm_at p) (omega (arith, length-alarm a))
-
 pub place-below : (form : Form) (ws : List ℕ) (n p : ℕ) (a : Alarm) → p < n
     → alarm_in form (sets ws (alarm_at n) (alarm_words a)) (alarm_at p) ≡ alarm_in form ws (alarm_at p)
 place-below form ws n p a h = alarm-below form ws (alarm_at n) (alarm_words a) (alarm_at p) (omega arith)
@@ -151,11 +139,6 @@ place-below form ws n p a h = alarm-below form ws (alarm_at n) (alarm_words a) (
 -- ---- the first elements of a list, given by their places
 
 module _ {X : Type 0} where
-  -- one element more
-  pub placed-next : (f : ℕ → X) (n : ℕ) (ys : List X) {xs : List X} {x : X} → xs ≡ placed f n ys → x ≡ f n → set xs n x ≡ placed f (n + 1) ys
-  unfolding placed
-  placed-next f n ys e h = rw (e, h, add-one)
-
   pub length-placed : (f : ℕ → X) (n : ℕ) (xs : List X) → length (placed f n xs) ≡ length xs
   unfolding placed
   length-placed f zero xs = refl

@@ -1,9 +1,8 @@
 -- A turn of the loop over an alarm's conditions, and of that over the alarms. Assumes nothing.
 use mathlib.Core.Bool.{Bool}
 use mathlib.Core.List.{List}
-use mathlib.Core.Path.{◌≡◌, refl, ap, ◌∙◌}
-use Prim.Native.Nat.{ℕ, zero, suc, ◌+◌, ◌*◌, ◌/◌, ◌^◌, ◌<◌}
-use native.Mathlib.Nat.{add-zero}
+use mathlib.Core.Path.{◌≡◌, ap, ◌∙◌}
+use Prim.Native.Nat.{ℕ, ◌+◌, ◌*◌, ◌/◌, ◌^◌}
 use native.Mathlib.Numerals.{add-one}
 use native.Mathlib.Omega.{arith}
 use lib.ListN.{get_or}
@@ -13,7 +12,7 @@ use Rattle.wire.proofs.WordLaws.{bit-shift}
 use Rattle.wire.specs.Internal.Places.{condition_bit, from_condition}
 use Rattle.settings.specs.Alarm.{blank, ack_required}
 use Rattle.settings.specs.declared.types.Alarm.{Alarm}
-use Rattle.marks.specs.Internal.Marks.{turn_by, starts_in, mark_condition, mark_conditions, mark_alarm, mark_alarms}
+use Rattle.marks.specs.Internal.Marks.{turn_by, mark_condition, mark_conditions, mark_alarm, mark_alarms}
 
 -- events without those of the first n conditions, and then of one more
 pub rest-next : (word n : ℕ) {rest : ℕ} → rest ≡ from_condition n word → rest / 8 ≡ from_condition (n + 1) word
@@ -23,16 +22,6 @@ rest-next word n e =
 
 rest-bit : (word n j k : ℕ) {rest : ℕ} → rest ≡ from_condition n word → condition_bit n 0 + j ≡ k → bit rest j ≡ bit word k
 rest-bit word n j k e p = ap (λ (w : ℕ). bit w j) e ∙ bit-shift word (condition_bit n 0) j ∙ ap (bit word) p
-
--- the start of a condition's row stands among the words of the states
-pub start-in : (ws : List ℕ) (from n : ℕ) → n < 6 → get_or ws (from + n) 0 ≡ get_or (starts_in ws from) n 0
-start-in ws from zero h = rw (add-zero from)
-start-in ws from (suc zero) h = refl
-start-in ws from (suc (suc zero)) h = refl
-start-in ws from (suc (suc (suc zero))) h = refl
-start-in ws from (suc (suc (suc (suc zero)))) h = refl
-start-in ws from (suc (suc (suc (suc (suc zero))))) h = refl
-start-in ws from (suc (suc (suc (suc (suc (suc n)))))) h = absurd (omega arith)
 
 -- the first n conditions are marked, and then the next
 pub conditions-next : (required : Bool) (starts : List ℕ) (word time base n : ℕ) (xs : List ℕ) {rest start : ℕ} {marks : List ℕ}

@@ -2,8 +2,7 @@
 use mathlib.Core.Path.{◌≡◌, refl, sym, ap, ◌∙◌}
 use mathlib.Core.List.{List, [], ◌∷◌}
 use mathlib.Core.Bool.{Bool, true, false, ◌&&◌, cond}
-use Prim.Native.Nat.{ℕ, zero, suc, ◌+◌, ◌-◌, ◌≤◌, ◌<◌}
-use native.Mathlib.Nat.{sub_self}
+use Prim.Native.Nat.{ℕ, zero, suc, ◌+◌, ◌≤◌, ◌<◌}
 use native.Mathlib.Omega.{arith}
 use borrow.Author.Tests.{ltb-true, ltb-false, eqb-true}
 use lib.Dec.{ltb, eqb}
@@ -52,23 +51,6 @@ offset-next counts place = go (ltb place counts.digital) refl
     go false e = omega (arith, ltb-false place counts.digital e)
 
 module _ (bytes : List ℕ) (counts : Counts) where
-  one_left : {place end : ℕ} → place < end → end - place ≡ suc (end - (place + 1))
-  one_left h = omega arith
-
-  pub check-next : {place end : ℕ} (at : ℕ) {x : Entry} → place < end → entry_at (form_at counts place) bytes at (place + 1) ≡ Ok x
-      → check_from bytes counts (end - place) place at ≡ check_from bytes counts (end - (place + 1)) (place + 1) x.next
-  unfolding check_from
-  check-next at h e = rw (one_left h, e)
-
-  pub check-stop : {place end : ℕ} (at : ℕ) {r : Refusal} → place < end → entry_at (form_at counts place) bytes at (place + 1) ≡ Err r
-      → check_from bytes counts (end - place) place at ≡ Err r
-  unfolding check_from
-  check-stop at h e = rw (one_left h, e)
-
-  pub check-end : (place at : ℕ) → check_from bytes counts (place - place) place at ≡ Ok tt
-  unfolding check_from
-  check-end place at = rw sub_self
-
   -- the part of the alarm at a place, read
   abbrev pub PartRead : ℕ → Type 0
   PartRead p =

@@ -1,6 +1,6 @@
 -- Laws of little-endian numbers and of consecutive writes, each over the width. Assumes nothing.
 use mathlib.Core.Path.{◌≡◌, refl, sym, ap, ap₂, ◌∙◌}
-use mathlib.Core.List.{List, [], ◌∷◌, ◌++◌, append_assoc}
+use mathlib.Core.List.{List, [], ◌∷◌, ◌++◌}
 use mathlib.Core.Logic.{◌⊎◌, inl, inr}
 use Prim.Native.Nat.{ℕ, zero, suc, ◌+◌, ◌*◌, ◌/◌, ◌%◌, ◌^◌, ◌≤◌, ◌<◌}
 use native.Mathlib.Nat.{eq-or-lt_of_le, le_of_suc-le-suc, add-zero, add-suc, mul-zero, add_assoc, zero-add, pow-zero, pow-suc, pow-succ', div-one}
@@ -95,23 +95,6 @@ word-then l i v vs {l₁} {m} {j} e f g =
     g ∙ ap (λ (k : List ℕ). sets k j (words vs)) e
     ∙ ap (λ (k : ℕ). sets (sets l i (bytes 4 v)) k (words vs)) (f ∙ ap (λ (n : ℕ). i + n) (sym (length-bytes 4 v)))
     ∙ sets-append l i (bytes 4 v) (words vs)
-
-pub words_append : (xs ys : List ℕ) → words (xs ++ ys) ≡ words xs ++ words ys
-unfolding words
-words_append [] ys = refl
-words_append (x ∷ xs) ys = simp (words_append xs ys, append_assoc)
-
--- the same of a run of words
-pub words-then : (l : List ℕ) (i : ℕ) (us vs : List ℕ) {l₁ m : List ℕ} {j : ℕ} → l₁ ≡ sets l i (words us) → j ≡ i + 4 * length us → m ≡ sets l₁ j (words vs)
-    → m ≡ sets l i (words (us ++ vs))
-words-then l i us vs {l₁} {m} {j} e f g =
-    g ∙ ap (λ (k : List ℕ). sets k j (words vs)) e
-    ∙ ap (λ (k : ℕ). sets (sets l i (words us)) k (words vs)) (f ∙ ap (λ (n : ℕ). i + n) (sym (length-words us)))
-    ∙ sets-append l i (words us) (words vs) ∙ ap (sets l i) (sym (words_append us vs))
-
-pub words-done : (m : List ℕ) (i : ℕ) → m ≡ sets m i (words [])
-unfolding words
-words-done m i = refl
 
 -- the k words from an offset on
 unfoldable pub words_at : List ℕ → ℕ → ℕ → List ℕ
