@@ -18,9 +18,7 @@ use six::decide::{Cells, decide};
 use state::offsets::{FLAGS, HIGH, LOW};
 use wire::bits::{is_set, only_in, spread_of, word_of};
 use wire::choice::choose;
-use wire::places::{
-    AT_H, AT_HH, AT_L, AT_LL, CONDITIONS, H, HH, HIGH_RUN, L, LL, LOW_RUN, SIX,
-};
+use wire::places::{AT_H, AT_HH, AT_L, AT_LL, CONDITIONS, H, HH, HIGH_RUN, L, LL, LOW_RUN, SIX};
 
 // The conditions that would be due if they are met.
 fn ready_in(flags: u32, high: u64, low: u64, duration: u32, time: u64) -> u32
@@ -61,7 +59,10 @@ pub fn finish(state: &mut [u64; STATE_USED], inputs: Inputs) -> u32
         (pair_of (flags_after inputs.modes inputs.met (decided_by state.old inputs)) inputs.word) }
 {
     let Inputs {
-        modes, met, time, ..
+        modes,
+        met,
+        time,
+        ..
     } = inputs;
     let first = state[FLAGS];
     let flags = lower(first);
