@@ -7,7 +7,7 @@ ghost use Rattle.state.specs.Internal.Starts.{keep_starts};
 ghost use Rattle.wire.specs.Internal.Places.{condition_unit, six_range};
 
 use crate::inputs::Inputs;
-use crate::sides::either;
+use crate::sides::sides_of;
 use crate::starts::begin_all;
 use condition::command::ack_word;
 use condition::mode::is_enabled;
@@ -18,7 +18,7 @@ use six::decide::{Cells, decide};
 use state::offsets::{FLAGS, HIGH, LOW};
 use wire::bits::{is_set, only_in, spread_of, word_of};
 use wire::choice::choose;
-use wire::places::{AT_H, AT_HH, AT_L, AT_LL, CONDITIONS, H, HH, HIGH_RUN, L, LL, LOW_RUN, SIX};
+use wire::places::{CONDITIONS, H, HH, HIGH_RUN, L, LL, LOW_RUN, SIX};
 
 // The conditions that would be due if they are met.
 fn ready_in(flags: u32, high: u64, low: u64, duration: u32, time: u64) -> u32
@@ -47,9 +47,10 @@ fn flags_after(modes: u32, met: u32, six: Cells) -> u32
     ensures { result ≡ flags_after modes met six }
 {
     let enabled = is_enabled(modes);
-    let high = enabled & either(met, AT_HH, AT_H);
-    let low = enabled & either(met, AT_L, AT_LL);
-    modes % 8 + 8 * word_of([enabled, high, low]) + CONDITIONS * six.kept
+    let sides = sides_of(met);
+    modes % 8
+        + 8 * word_of([enabled, enabled & sides.high, enabled & sides.low])
+        + CONDITIONS * six.kept
 }
 
 // Ends the scan of an alarm: stores starts, flags and command word, and answers the events.

@@ -4,7 +4,7 @@ ghost use Rattle.wire.specs.Bits.{bit};
 ghost use Rattle.state.specs.Internal.Starts.{keep_starts};
 ghost use Rattle.analog.specs.Internal.Packed.{row_begins, all_begin};
 
-use crate::sides::either;
+use crate::sides::sides_of;
 use state::begin::begin_each;
 use state::offsets::STARTS_WORDS;
 use wire::bits::{is_set, only_in};
@@ -26,8 +26,9 @@ pub fn begin_all(starts: &mut [u64; STARTS_WORDS], flags: u32, enabled: bool, me
     ensures { starts.new ≡ keep_starts (all_begin flags enabled met) time 0 starts.old }
 {
     let begins = rows_begin(flags, enabled, met);
-    let high = enabled & either(met, AT_HH, AT_H) & !is_set(flags, HIGH_RUN);
-    let low = enabled & either(met, AT_L, AT_LL) & !is_set(flags, LOW_RUN);
+    let sides = sides_of(met);
+    let high = enabled & sides.high & !is_set(flags, HIGH_RUN);
+    let low = enabled & sides.low & !is_set(flags, LOW_RUN);
     if (begins == 0) & !high & !low {
         return;
     }

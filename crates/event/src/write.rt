@@ -8,7 +8,7 @@ ghost use Rattle.event.specs.Internal.Kind.{kind_number};
 ghost use Rattle.wire.specs.Internal.Places.{first_condition, word_bits, condition_bit};
 
 use crate::kind::EventKind;
-use crate::slot::{condition_at, severity_at};
+use crate::slot::slot_at;
 use crate::source::Source;
 use settings::severity::acting_severity;
 use wire::number::LittleEndian;
@@ -109,9 +109,9 @@ fn put_condition(out: &mut [u8], at: usize, source: &Source<'_>, place: usize, w
     if word % 8 == 0 {
         return at;
     }
-    let severity = acting_severity(severity_at(source, place));
-    let condition = condition_at(source.form, place);
-    let first = head(source, condition, EventKind::Acknowledged, severity);
+    let slot = slot_at(source, place);
+    let severity = acting_severity(slot.severity);
+    let first = head(source, slot.condition, EventKind::Acknowledged, severity);
     put_bits(out, at, first, source.time, word, CONDITION_BITS)
 }
 

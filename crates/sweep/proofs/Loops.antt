@@ -1,8 +1,8 @@
 -- Alarms stepped one after the other. Assumes nothing.
 use mathlib.Core.Path.{◌≡◌, refl, sym, ap, ◌∙◌}
 use mathlib.Core.List.{List, [], ◌++◌}
-use Prim.Native.Nat.{ℕ, zero, suc, ◌+◌, ◌*◌, ◌≤◌, ◌<◌}
-use native.Mathlib.Nat.{add-zero, mul-le-mul_left, mul-suc}
+use Prim.Native.Nat.{ℕ, zero, suc, ◌+◌, ◌*◌, ◌≤◌}
+use native.Mathlib.Nat.{add-zero, mul-suc}
 use native.Mathlib.Numerals.{add-one}
 use native.Mathlib.Omega.{arith}
 use lib.ListN.{length, length-append}
@@ -107,13 +107,7 @@ module _ (w : Words) (rec : List ℕ) where
         ∙ sets-append out₀ start (log_from w rec first n) (log_bytes (events_on w rec (first + n)))
         ∙ ap (sets out₀ start) (sym (log-next first n))
 
--- parts of equal size: the next one ends where all end, or before
-pub part-fits : (size n count : ℕ) → n < count → size * n + size ≤ size * count
-part-fits size n count h =
-    let m : size * (n + 1) ≤ size * count = mul-le-mul_left size (omega arith) in
-    let e : size * (n + 1) ≡ size * n + size = rw (add-one n) (mul-suc size n) in
-    omega (arith, m, e)
-
+-- parts of equal size: the next one begins where this one ends
 pub part-next : (begin size n : ℕ) {at : ℕ} → at ≡ begin + size * n → at + size ≡ begin + size * (n + 1)
 part-next begin size n e =
     let m : size * (n + 1) ≡ size * n + size = rw (add-one n) (mul-suc size n) in

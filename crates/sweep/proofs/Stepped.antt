@@ -75,7 +75,7 @@ module _ (scan : Scan) (part : Part) (states : List ℕ) where
     unfolding place_states
     back =
         put_back states (state_at part.place.index) (part_step scan part states).state (omega (arith, part.place.below))
-        (small scan.settings.now states scan.bytes.now part.at part.place.index scan.time part.form)
+        (small scan.settings.now states part.bytes.now part.at part.place.index scan.time part.form)
 
     module _ {kept : List ℕ} {word : ℕ} (k : kept ≡ part_states scan part states) (e : word ≡ (part_step scan part states).events) where
       kept_back : state_in kept (state_at part.place.index) ≡ (part_step scan part states).state
@@ -128,14 +128,14 @@ module _ (scan : Scan) (part : Part) (states : List ℕ) where
 
     -- the step, by the form
     abbrev step : Form → Stepped
-    step form = place_step form scan.settings.now states scan.bytes.now part.at p scan.time
+    step form = place_step form scan.settings.now states part.bytes.now part.at p scan.time
 
-    pub digital-is : {word : ℕ} → word ≡ word_at Digital scan.bytes.now part.at
-        → digital_step (alarm_in Digital own 0) (state_in state 0) (reading_at Digital scan.bytes.now part.at) word scan.time ≡ step Digital
+    pub digital-is : {word : ℕ} → word ≡ word_at Digital part.bytes.now part.at
+        → digital_step (alarm_in Digital own 0) (state_in state 0) (reading_at Digital part.bytes.now part.at) word scan.time ≡ step Digital
     unfolding place_step step_kind alarm_in
-    digital-is w = λ i. digital_step (alarm-is Digital i) (state-is i) (reading_at Digital scan.bytes.now part.at) (w i) scan.time
+    digital-is w = λ i. digital_step (alarm-is Digital i) (state-is i) (reading_at Digital part.bytes.now part.at) (w i) scan.time
 
-    pub analog-is : {x : Float} {word : ℕ} → x ≡ real_at scan.bytes.now part.at → word ≡ word_at Analog scan.bytes.now part.at
+    pub analog-is : {x : Float} {word : ℕ} → x ≡ real_at part.bytes.now part.at → word ≡ word_at Analog part.bytes.now part.at
         → analog_step reals real_patterns (real_analog (alarm_in Analog own 0)) (state_in state 0) (Level x) word scan.time ≡ step Analog
     unfolding place_step step_kind alarm_in
     analog-is x w = λ i. analog_step reals real_patterns (real_analog (alarm-is Analog i)) (state-is i) (Level (x i)) (w i) scan.time

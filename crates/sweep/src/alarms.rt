@@ -9,7 +9,7 @@ ghost use Rattle.bank.specs.Internal.Blocks.{SameWords};
 ghost use Rattle.sweep.specs.Internal.Scan.{scan_words};
 ghost use Rattle.sweep.specs.Internal.Sweep.{HaveForm, Ready, most_bytes, stepped_from, marked_from, log_from, log_after, words_after};
 
-use crate::part::{Part, Scan};
+use crate::part::{Group, Part, Scan};
 use crate::place::step_place;
 use bank::blocks::Kept;
 use layout::place::Place;
@@ -18,37 +18,39 @@ use scan_record::part::{TIME_SIZE, analog_begin, part_size};
 use settings::counts::Counts;
 use settings::types::Form;
 
-// Steps `count` alarms of one form, of which the first is given with its part of the record. Their events go to `out` from
-// `start` on; answers the offset past them.
-fn scan_form(
+// Steps the alarms of one form. Their events go to `out` from `start` on; answers the offset past them.
+fn scan_group(
     scan: &Scan<'_>,
-    first: Part,
-    count: usize,
+    group: Group,
     kept: &mut Kept<'_>,
     out: &mut [u8],
     start: usize,
 ) -> usize
-    requires few { first.place.index + count ≤ all_most }
-    requires parts { (first.at ≡ offset_of (counts_in scan.now.settings.now) first.place.index) ×
-        (first.at + entry_size first.form * count ≤ length scan.now.bytes.now) }
-    requires have_form { HaveForm (counts_in scan.now.settings.now) first.place.index count first.form }
-    requires room { start + length (log_from (scan_words scan.now kept.old) scan.now.bytes.now first.place.index count) ≤ length out.old }
-    ensures value { result ≡ start + length (log_from (scan_words scan.now kept.old) scan.now.bytes.now first.place.index count) }
+    requires few { group.first + group.count ≤ all_most }
+    requires parts { (group.at ≡ offset_of (counts_in scan.now.settings.now) group.first) ×
+        (group.at + entry_size group.form * group.count ≤ length scan.now.bytes.now) }
+    requires have_form { HaveForm (counts_in scan.now.settings.now) group.first group.count group.form }
+    requires room { start + length (log_from (scan_words scan.now kept.old) scan.now.bytes.now group.first group.count) ≤ length out.old }
+    ensures value { result ≡ start + length (log_from (scan_words scan.now kept.old) scan.now.bytes.now group.first group.count) }
     ensures same { SameWords kept.old kept.new }
-    ensures states_after { kept.new.states.now ≡ stepped_from (scan_words scan.now kept.old) scan.now.bytes.now first.place.index count }
-    ensures marks_after { kept.new.marks.now ≡ marked_from (scan_words scan.now kept.old) scan.now.bytes.now first.place.index count }
-    ensures out_after { out.new ≡ sets out.old start (log_from (scan_words scan.now kept.old) scan.now.bytes.now first.place.index count) }
+    ensures states_after { kept.new.states.now ≡ stepped_from (scan_words scan.now kept.old) scan.now.bytes.now group.first group.count }
+    ensures marks_after { kept.new.marks.now ≡ marked_from (scan_words scan.now kept.old) scan.now.bytes.now group.first group.count }
+    ensures out_after { out.new ≡ sets out.old start (log_from (scan_words scan.now kept.old) scan.now.bytes.now group.first group.count) }
 {
     // A copy, since what stands behind a reference would be read again for each alarm.
     let scan = *scan;
-    let form = first.form;
-    let mut at = first.at;
+    let form = group.form;
+    let mut at = group.at;
     let mut used = start;
-    for n in 0..count {
-        let place = Place {
-            index: first.place.index + n,
+    for n in 0..group.count {
+        let index = group.first + n;
+        let part = Part {
+            form,
+            place: Place { index },
+            bytes: scan.bytes,
+            at,
         };
-        used = step_place(&scan, Part { form, place, at }, kept, out, used);
+        used = step_place(&scan, part, kept, out, used);
         at += part_size(form);
     }
     used
@@ -65,20 +67,20 @@ pub fn scan_alarms(scan: &Scan<'_>, kept: &mut Kept<'_>, out: &mut [u8], counts:
     ensures marks_after { kept.new.marks.now ≡ (words_after (scan_words scan.now kept.old) scan.now.bytes.now).marks }
     ensures out_after { out.new ≡ sets out.old 0 (log_after (scan_words scan.now kept.old) scan.now.bytes.now) }
 {
-    let digital = Part {
+    let digital = Group {
         form: Form::Digital,
-        place: Place { index: 0 },
+        first: 0,
+        count: counts.digital,
         at: TIME_SIZE,
     };
-    let half = scan_form(scan, digital, counts.digital, kept, out, 0);
-    let analog = Part {
+    let half = scan_group(scan, digital, kept, out, 0);
+    let analog = Group {
         form: Form::Analog,
-        place: Place {
-            index: counts.digital,
-        },
+        first: counts.digital,
+        count: counts.analog,
         at: analog_begin(counts),
     };
-    let used = scan_form(scan, analog, counts.analog, kept, out, half);
+    let used = scan_group(scan, analog, kept, out, half);
     kept.states[LAST_TIME] = scan.time;
     used
 }

@@ -1,6 +1,6 @@
-// What a scan reads, and the alarm that it comes to.
-ghost use Rattle.std.specs.Prelude.{◌≡◌};
-ghost use Rattle.scan_record.specs.Part.{time_of};
+// What a scan reads, and the alarms that it comes to.
+ghost use Rattle.std.specs.Prelude.{◌≡◌, ◌+◌, ◌≤◌, length};
+ghost use Rattle.scan_record.specs.Part.{entry_size, time_of};
 
 use layout::place::Place;
 use layout::sizes::SETTINGS_WORDS;
@@ -15,10 +15,21 @@ pub struct Scan<'a> {
     pub ghost timed: { time ≡ time_of bytes.now },
 }
 
-// An alarm: its form and place, and where its part of the record begins.
+// The alarms of one form: how many they are, the place of the first, and where its part of the record begins.
+#[derive(Clone, Copy, Debug, PartialEq, Eq)]
+pub struct Group {
+    pub form: Form,
+    pub first: usize,
+    pub count: usize,
+    pub at: usize,
+}
+
+// An alarm: its form and place, the record, and where its part of it begins.
 #[derive(Clone, Copy)]
-pub struct Part {
+pub struct Part<'a> {
     pub form: Form,
     pub place: Place,
+    pub bytes: &'a [u8],
     pub at: usize,
+    pub ghost whole: { at + entry_size form ≤ length bytes.now },
 }

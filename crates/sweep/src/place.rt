@@ -1,7 +1,6 @@
 // What a checked record does to the alarm at a place.
 ghost use Rattle.std.specs.Prelude.{◌≡◌, ◌+◌, ◌≤◌, length};
 ghost use Rattle.std.proofs.lemmas.List.Edits.{sets};
-ghost use Rattle.scan_record.specs.Internal.Size.{entry_size};
 ghost use Rattle.bank.specs.Internal.Blocks.{SameWords};
 ghost use Rattle.sweep.specs.Internal.Part.{part_step, part_states, part_log, part_marks, log_of, marks_of};
 
@@ -22,17 +21,16 @@ use wire::number::LittleEndian;
 use wire::places::SUPPRESSED;
 
 // Steps the alarm with its part of the record, and answers its event word.
-fn step_form(scan: &Scan<'_>, part: Part, states: &mut [u64; STATES_WORDS]) -> u32
-    requires { part.at + entry_size part.form ≤ length scan.now.bytes.now }
-    ensures value { result ≡ (part_step scan.now part states.old).events }
-    ensures states_after { states.new ≡ part_states scan.now part states.old }
+fn step_form(scan: &Scan<'_>, part: Part<'_>, states: &mut [u64; STATES_WORDS]) -> u32
+    ensures value { result ≡ (part_step scan.now part.entry states.old).events }
+    ensures states_after { states.new ≡ part_states scan.now part.entry states.old }
 {
     let settings = part.place.settings_in(scan.settings);
     let (_, behind) = states.split_at_mut(part.place.state_at());
     let Some(state) = behind.first_chunk_mut() else {
         unreachable!()
     };
-    let bytes = scan.bytes;
+    let bytes = part.bytes;
     let at = part.at;
     match part.form {
         Form::Digital => {
@@ -51,12 +49,12 @@ fn step_form(scan: &Scan<'_>, part: Part, states: &mut [u64; STATES_WORDS]) -> u
 // Marks the events of an alarm that was stepped in its counts and stamps. Most alarms have none.
 fn mark_place(
     scan: &Scan<'_>,
-    part: Part,
+    part: Part<'_>,
     states: &[u64; STATES_WORDS],
     marks: &mut [u64; MARKS_WORDS],
     events: u32,
 )
-    ensures { marks.new ≡ marks_of scan.now part states.now events marks.old }
+    ensures { marks.new ≡ marks_of scan.now part.entry states.now events marks.old }
 {
     if events == 0 {
         return;
@@ -75,15 +73,15 @@ fn mark_place(
 // Writes the events of an alarm that was stepped, and answers the offset past them.
 fn log_place(
     scan: &Scan<'_>,
-    part: Part,
+    part: Part<'_>,
     states: &[u64; STATES_WORDS],
     out: &mut [u8],
     used: usize,
     events: u32,
 ) -> usize
     requires { used + length (log_of scan.now part states.now events) ≤ length out.old }
-    ensures value { result ≡ used + length (log_of scan.now part states.now events) }
-    ensures out_after { out.new ≡ sets out.old used (log_of scan.now part states.now events) }
+    ensures value { result ≡ used + length (log_of scan.now part.entry states.now events) }
+    ensures out_after { out.new ≡ sets out.old used (log_of scan.now part.entry states.now events) }
 {
     if events == 0 {
         return used;
@@ -102,18 +100,17 @@ fn log_place(
 // Steps the alarm, writes its events to `out` from `used` on, marks them, and answers the offset past them.
 pub fn step_place(
     scan: &Scan<'_>,
-    part: Part,
+    part: Part<'_>,
     kept: &mut Kept<'_>,
     out: &mut [u8],
     used: usize,
 ) -> usize
-    requires { (part.at + entry_size part.form ≤ length scan.now.bytes.now) ×
-        (used + length (part_log scan.now part kept.old.states.now) ≤ length out.old) }
-    ensures value { result ≡ used + length (part_log scan.now part kept.old.states.now) }
+    requires { used + length (part_log scan.now part kept.old.states.now) ≤ length out.old }
+    ensures value { result ≡ used + length (part_log scan.now part.entry kept.old.states.now) }
     ensures same { SameWords kept.old kept.new }
-    ensures states_after { kept.new.states.now ≡ part_states scan.now part kept.old.states.now }
-    ensures marks_after { kept.new.marks.now ≡ part_marks scan.now part kept.old.states.now kept.old.marks.now }
-    ensures out_after { out.new ≡ sets out.old used (part_log scan.now part kept.old.states.now) }
+    ensures states_after { kept.new.states.now ≡ part_states scan.now part.entry kept.old.states.now }
+    ensures marks_after { kept.new.marks.now ≡ part_marks scan.now part.entry kept.old.states.now kept.old.marks.now }
+    ensures out_after { out.new ≡ sets out.old used (part_log scan.now part.entry kept.old.states.now) }
 {
     let events = step_form(scan, part, kept.states);
     mark_place(scan, part, kept.states, kept.marks, events);

@@ -14,16 +14,16 @@ marks_of scan part states word marks = state_marks part.form scan.settings.now s
 
 -- stepped with its part of the record
 abbrev pub part_step : Scan → Part → List ℕ → Stepped
-part_step scan part states = place_step part.form scan.settings.now states scan.bytes.now part.at part.place.index scan.time
+part_step scan part states = place_step part.form scan.settings.now states part.bytes.now part.at part.place.index scan.time
 
 -- the words of all states after it
 abbrev pub part_states : Scan → Part → List ℕ → List ℕ
-part_states scan part states = place_states part.form scan.settings.now states scan.bytes.now part.at part.place.index scan.time
+part_states scan part states = place_states part.form scan.settings.now states part.bytes.now part.at part.place.index scan.time
 
 -- the bytes of its events
 abbrev pub part_log : Scan → Part → List ℕ → List ℕ
-part_log scan part states = place_log part.form scan.settings.now states scan.bytes.now part.at part.place.index scan.time
+part_log scan part states = place_log part.form scan.settings.now states part.bytes.now part.at part.place.index scan.time
 
 -- the counts and stamps of all after it
 abbrev pub part_marks : Scan → Part → List ℕ → List ℕ → List ℕ
-part_marks scan part states marks = place_marks part.form scan.settings.now states scan.bytes.now part.at part.place.index scan.time marks
+part_marks scan part states marks = place_marks part.form scan.settings.now states part.bytes.now part.at part.place.index scan.time marks

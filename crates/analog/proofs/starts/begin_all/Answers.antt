@@ -41,8 +41,8 @@ quiet flags met enabled time at ws {w} z bits high low =
 pub returns-then-begins-high : goal.returns-then-begins-high
 returns-then-begins-high c =
     let a = c.args in
-    let high : a.enabled && c.either.result && not c.is_set.result ≡ a.enabled && (bit a.met 0 || bit a.met 3) && not (bit a.flags 4) = cc in
-    let low : a.enabled && c.either-2.result && not c.is_set-2.result ≡ a.enabled && (bit a.met 6 || bit a.met 9) && not (bit a.flags 5) = cc in
+    let high : a.enabled && c.sides_of-sides.result.high && not c.is_set.result ≡ a.enabled && (bit a.met 0 || bit a.met 3) && not (bit a.flags 4) = cc in
+    let low : a.enabled && c.sides_of-sides.result.low && not c.is_set-2.result ≡ a.enabled && (bit a.met 6 || bit a.met 9) && not (bit a.flags 5) = cc in
     let rests = and-true _ _ c.if-begins-high.true in
     let still = and-true _ _ rests.0 in
     quiet a.flags a.met a.enabled a.time 0 a.starts.now (eqb-true _ _ still.0) c.rows_begin-begins.ensures (ap not (sym high) ∙ still.1)

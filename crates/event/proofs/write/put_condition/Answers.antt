@@ -28,8 +28,8 @@ put_bits-requires c =
     let h = c.head-first.ensures in
     let e =
     condition-records s.number s.form s.settings.now 0 s.suppressed s.time a.place a.word (search rules) h.value s.small
-    h.upper_bound.1 c.condition_at-condition.ensures c.acting_severity-severity.ensures
-    c.severity_at.ensures in
+    h.upper_bound.1 c.slot_at-slot.ensures.condition c.acting_severity-severity.ensures
+    c.slot_at-slot.ensures.severity in
     omega (arith, ap length e)
 
 pub returns : goal.returns
@@ -40,9 +40,9 @@ returns c =
     let p = c.put_bits.ensures in
     let e =
     condition-records s.number s.form s.settings.now 0 s.suppressed s.time a.place a.word (search rules) h.value s.small
-    h.upper_bound.1 c.condition_at-condition.ensures
+    h.upper_bound.1 c.slot_at-slot.ensures.condition
     c.acting_severity-severity.ensures
-    c.severity_at.ensures in
+    c.slot_at-slot.ensures.severity in
     record {
       value = omega (arith, ap length e);
       out_after = p.out_after ∙ ap (sets a.out.now a.at) (sym e);

@@ -19,8 +19,8 @@ use Rattle.sweep.proofs.Halves.{digital-places, analog-places, half, states-whol
 use Rattle.sweep.proofs.Room.{room_most}
 use Rattle.sweep.proofs.alarms.scan_alarms.Goals as goal
 
-pub scan_form-half-requires : goal.scan_form-half-requires
-scan_form-half-requires c =
+pub scan_group-half-requires : goal.scan_group-half-requires
+scan_group-half-requires c =
     let a = c.args in
     let r = c.requires.ready in
     let rec : List ℕ = a.scan.now.bytes.now in
@@ -34,9 +34,9 @@ scan_form-half-requires c =
       room = omega (arith, log-grows w rec 0 a.counts.digital a.counts.analog, most, c.requires.room);
     }
 
-pub scan_form-used-requires : goal.scan_form-used-requires
-scan_form-used-requires c =
-    let e = c.scan_form-half.ensures in
+pub scan_group-used-requires : goal.scan_group-used-requires
+scan_group-used-requires c =
+    let e = c.scan_group-half.ensures in
     let a = c.args in
     let r = c.requires.ready in
     let d : a.counts.digital ≡ (counts_in a.scan.now.settings.now).digital = ap (λ (k : Counts). k.digital) r.counts-are in
@@ -57,8 +57,8 @@ scan_form-used-requires c =
 pub returns : goal.returns
 unfolding words_after
 returns c =
-    let f = c.scan_form-used.ensures in
-    let e = c.scan_form-half.ensures in
+    let f = c.scan_group-used.ensures in
+    let e = c.scan_group-half.ensures in
     let a = c.args in
     let r = c.requires.ready in
     let rec : List ℕ = a.scan.now.bytes.now in

@@ -10,7 +10,7 @@ use Rattle.sweep.proofs.place.step_place.Goals as goal
 pub log_place-requires : goal.log_place-requires
 log_place-requires c =
     let e = c.step_form-events.ensures in
-    rw (log_back c.args.scan.now c.args.part c.args.kept.now.states.now c.args.kept.now.states_long e.states_after e.value) c.requires.1
+    rw (log_back c.args.scan.now c.args.part c.args.kept.now.states.now c.args.kept.now.states_long e.states_after e.value) c.requires
 
 pub invariant_of-kept : goal.invariant_of-kept
 invariant_of-kept c =

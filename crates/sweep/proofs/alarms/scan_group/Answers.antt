@@ -1,4 +1,4 @@
--- `sweep::alarms::scan_form` meets its contract: the invariant: the alarms before this one are stepped, logged and marked, and this one's
+-- `sweep::alarms::scan_group` meets its contract: the invariant: the alarms before this one are stepped, logged and marked, and this one's
 -- part begins here. Assumes nothing.
 use mathlib.Core.Path.{◌≡◌, refl, sym, ap, ◌∙◌}
 use mathlib.Core.List.{List}
@@ -15,52 +15,49 @@ use Rattle.scan_record.proofs.Entries.{offset-next}
 use Rattle.bank.specs.Lent.{Words}
 use Rattle.sweep.specs.Internal.Scan.{scan_words}
 use Rattle.sweep.specs.Internal.Sweep.{stepped_from, marked_from, log_from}
-use Rattle.sweep.proofs.Loops.{log-none, length-next, log-grows, log-here, states-next, marks-next, out-next, part-fits}
+use Rattle.sweep.proofs.Loops.{log-none, length-next, log-grows, log-here, states-next, marks-next, out-next}
 use Rattle.sweep.proofs.Loops.{part-next}
-use Rattle.sweep.proofs.alarms.scan_form.Goals as goal
+use Rattle.sweep.proofs.alarms.scan_group.Goals as goal
 
 pub loop-n-init : goal.loop-n-init
 unfolding stepped_from marked_from
 loop-n-init c =
     let a = c.args in
-    let f = a.first in
+    let f = a.group in
     let rec : List ℕ = a.scan.now.bytes.now in
     let w : Words = scan_words a.scan.now a.kept.now in
     record {
-      here = c.requires.parts.0 ∙ ap (offset_of (counts_in a.scan.now.settings.now)) (sym (add-zero f.place.index));
+      here = c.requires.parts.0 ∙ ap (offset_of (counts_in a.scan.now.settings.now)) (sym (add-zero f.first));
       parts = sym (ap (λ (k : ℕ). f.at + k) (mul-zero (entry_size f.form)) ∙ add-zero f.at);
-      written = sym (ap (λ (l : List ℕ). a.start + length l) (log-none w rec f.place.index) ∙ add-zero a.start);
+      written = sym (ap (λ (l : List ℕ). a.start + length l) (log-none w rec f.first) ∙ add-zero a.start);
       same = (refl, refl);
       stepped = refl;
       marked = refl;
-      logged = sym (ap (sets a.out.now a.start) (log-none w rec f.place.index));
+      logged = sym (ap (sets a.out.now a.start) (log-none w rec f.first));
     }
 
 pub step_place-used-requires : goal.step_place-used-requires
 step_place-used-requires c =
     let l = c.loop-n in
     let a = c.args in
-    let p = a.first.place.index in
+    let p = a.group.first in
     let rec : List ℕ = a.scan.now.bytes.now in
     let w : Words = scan_words a.scan.now a.kept.now in
     let f = c.requires.have_form (p + l.n) (omega arith) (omega arith) in
     let e = ap length (log-here w rec p l.n f l.invariant.here a.scan.now.timed l.invariant.stepped) in
-    let k : l.n + 1 + (a.count - (l.n + 1)) ≡ a.count = omega arith in
-    let g = log-grows w rec p (l.n + 1) (a.count - (l.n + 1)) in
+    let k : l.n + 1 + (a.group.count - (l.n + 1)) ≡ a.group.count = omega arith in
+    let g = log-grows w rec p (l.n + 1) (a.group.count - (l.n + 1)) in
     let same = ap length l.invariant.logged ∙ length-sets a.out.now a.start (log_from w rec p l.n) in
     let total = ap (λ (n : ℕ). length (log_from w rec p n)) k in
     let next = length-next w rec p l.n in
-    let room = part-fits (entry_size a.first.form) l.n a.count (omega arith) in (
-      omega (arith, room, l.invariant.parts, c.requires.parts.1),
-      omega (arith, e, g, same, total, next, l.invariant.written, c.requires.room),
-    )
+    omega (arith, e, g, same, total, next, l.invariant.written, c.requires.room)
 
 pub loop-n-preserved : goal.loop-n-preserved
 loop-n-preserved c =
     let l = c.loop-n in
     let q = c.step_place-used.ensures in
     let a = c.args in
-    let p = a.first.place.index in
+    let p = a.group.first in
     let counts = counts_in a.scan.now.settings.now in
     let rec : List ℕ = a.scan.now.bytes.now in
     let w : Words = scan_words a.scan.now a.kept.now in
@@ -74,7 +71,7 @@ loop-n-preserved c =
     record {
       here = (λ i. h i + size i) ∙ ap (λ (g : Form). offset_of counts (p + l.n) + entry_size g) (sym f) ∙ offset-next counts (p + l.n)
           ∙ ap (offset_of counts) place;
-      parts = ap (λ (k : ℕ). l.at + k) size ∙ part-next a.first.at (entry_size a.first.form) l.n l.invariant.parts;
+      parts = ap (λ (k : ℕ). l.at + k) size ∙ part-next a.group.at (entry_size a.group.form) l.n l.invariant.parts;
       written = omega (arith, q.value, e, l.invariant.written, length-next w rec p l.n);
       same = (q.same.0 ∙ l.invariant.same.0, q.same.1 ∙ l.invariant.same.1);
       stepped = q.states_after ∙ states-next w rec p l.n f h t s;

@@ -1,4 +1,4 @@
--- `sweep::alarms::scan_form` meets its contract: the invariant: the alarms before this one are stepped, logged and marked, and this one's
+-- `sweep::alarms::scan_group` meets its contract: the invariant: the alarms before this one are stepped, logged and marked, and this one's
 -- part begins here. Assumes nothing.
 use mathlib.Core.Path.{◌≡◌}
 use Prim.Native.Nat.{◌+◌, ◌*◌}
@@ -10,19 +10,19 @@ use Rattle.scan_record.specs.Internal.Size.{entry_size}
 use Rattle.bank.specs.Internal.Blocks.{SameWords}
 use Rattle.sweep.specs.Internal.Scan.{scan_words}
 use Rattle.sweep.specs.Internal.Sweep.{stepped_from, marked_from, log_from}
-use Rattle.sweep.proofs.alarms.scan_form.Given as goal
+use Rattle.sweep.proofs.alarms.scan_group.Given as goal
 
 abbrev pub invariant-loop-n : goal.invariant-loop-n
 invariant-loop-n l =
     let w = scan_words l.scan l.initial.kept in
-    let p = l.first.place.index in
+    let g = l.group in
     let rec = l.scan.bytes.now in
     record {
-      here : l.at ≡ offset_of (counts_in l.scan.settings.now) (p + l.n);
-      parts : l.at ≡ l.first.at + entry_size l.first.form * l.n;
-      written : l.used ≡ l.start + length (log_from w rec p l.n);
+      here : l.at ≡ offset_of (counts_in l.scan.settings.now) (g.first + l.n);
+      parts : l.at ≡ g.at + entry_size g.form * l.n;
+      written : l.used ≡ l.start + length (log_from w rec g.first l.n);
       same : SameWords l.initial.kept l.kept;
-      stepped : l.kept.states.now ≡ stepped_from w rec p l.n;
-      marked : l.kept.marks.now ≡ marked_from w rec p l.n;
-      logged : l.out ≡ sets l.initial.out l.start (log_from w rec p l.n);
+      stepped : l.kept.states.now ≡ stepped_from w rec g.first l.n;
+      marked : l.kept.marks.now ≡ marked_from w rec g.first l.n;
+      logged : l.out ≡ sets l.initial.out l.start (log_from w rec g.first l.n);
     }
