@@ -8,7 +8,8 @@ use crate::blocks::Blocks;
 use layout::block::{Block, block_in};
 use settings::refusals::Refusal;
 
-// Looks at the three lengths and the layout word, and names the block that is not a bank's.
+// Looks at the three lengths and the layout word, and names the block that is not a bank's. The blocks come one by one, as the exported calls
+// are lent them.
 pub fn fit<'a>(
     settings: &'a [u64],
     states: &'a [u64],

@@ -32,7 +32,8 @@ fn load_blocks(
     given.map(|_| ())
 }
 
-// Writes the bank of a settings image, before its first scan; of a refused image, a bank without alarms.
+// Writes the bank of a settings image, before its first scan; of a refused image, a bank without alarms. The three blocks come one by one,
+// as the exported calls are lent them.
 pub fn load(
     image: &[u8],
     settings: &mut [u64],

@@ -1,4 +1,4 @@
-// The writer of a settings image.
+// The writer of a settings image. Offsets go from function to function as in the writer of event records (crates/event).
 ghost use Rattle.std.specs.Prelude.{◌≡◌, ◌+◌, ◌*◌, ◌≤◌, ◌<◌, length};
 ghost use Rattle.std.proofs.lemmas.List.Edits.{sets};
 ghost use Rattle.std.proofs.Math.Seq.{slice};

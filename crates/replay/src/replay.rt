@@ -54,7 +54,7 @@ pub fn count_answer(done: Tally, answer: Result<usize, Refusal>, index: usize) -
     }
 }
 
-// Runs each record of `bytes` as a scan of its own, and passes over those that are refused. The three blocks are handed on one by one: each
+// Runs each record of `bytes` as a scan of its own, and passes over those that are refused. The three blocks are handed on as they came: each
 // scan looks at them for itself.
 fn run(
     settings: &[u64],
@@ -83,7 +83,8 @@ fn run(
     done
 }
 
-// Runs the records of `bytes` on the bank in these words; words that are no bank are refused and left as they are.
+// Runs the records of `bytes` on the bank in these words; words that are no bank are refused and left as they are. The blocks come one by one,
+// as the exported calls are lent them.
 pub fn replay(
     settings: &[u64],
     states: &mut [u64],

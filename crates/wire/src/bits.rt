@@ -14,7 +14,8 @@ pub fn word_of<const N: usize>(bits: [bool; N]) -> u32
     word
 }
 
-// The same with a bit at every third place.
+// The same with a bit at every third place. One function for both would be no plainer: it takes a definition of bits so many places apart,
+// and a bound with a product of two numbers.
 pub fn spread_of<const N: usize>(bits: [bool; N]) -> u32
     requires { N ≤ 11 }
     ensures { (result ≡ word_of (spread bits.entry)) × (result < 2 ^ (3 * N - 2)) }
