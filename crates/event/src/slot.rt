@@ -8,9 +8,10 @@ use crate::source::Source;
 use layout::half::{lower, upper};
 use layout::read::severity_in;
 use settings::types::Form;
+use wire::choice::choose;
 
 // Where the severities begin among an alarm's words, two a word.
-pub const SEVERITIES: usize = 5;
+const SEVERITIES: usize = 5;
 
 // The number of the condition, 0 of a digital alarm and from 1 on of an analog one, and the severity that is stored for it.
 #[derive(Clone, Copy, Debug, PartialEq, Eq)]
@@ -32,16 +33,9 @@ pub fn slot_at(source: &Source<'_>, place: usize) -> Slot
         },
         Form::Analog => {
             let pair = source.settings[SEVERITIES + place / 2];
-            let condition = (1 + place) as u8;
-            if place % 2 == 0 {
-                return Slot {
-                    condition,
-                    severity: lower(pair),
-                };
-            }
             Slot {
-                condition,
-                severity: upper(pair),
+                condition: (1 + place) as u8,
+                severity: choose(place % 2 == 0, lower(pair), upper(pair)),
             }
         }
     }

@@ -1,4 +1,4 @@
-// The settings block, 292 words.
+// The blocks by name, and the block of settings, 292 words.
 ghost use Rattle.std.specs.Prelude.{◌≡◌, true, false, length, get_or, replicate, MatchOption};
 ghost use Rattle.std.proofs.lemmas.List.Edits.{sets};
 ghost use Rattle.settings.specs.Counts.{all_most};

@@ -1,4 +1,4 @@
-// Where a bank's settings stand in the 64-bit words that a caller lends.
+// The blocks of 64-bit words that a caller lends for a bank: the settings, and where an alarm's words stand in each block.
 #![tactic(auto)]
 
 pub mod block;

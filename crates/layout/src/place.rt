@@ -2,7 +2,7 @@
 ghost use Rattle.std.specs.Prelude.{◌≡◌, ◌+◌, ◌<◌, ◌≤◌, length};
 ghost use Rattle.wire.specs.Number.{part};
 ghost use Rattle.layout.specs.Internal.Sizes.{places};
-ghost use Rattle.layout.specs.Internal.Block.{alarm_at, state_at, marks_at};
+ghost use Rattle.layout.specs.Internal.Block.{alarm_at, state_at, mark_at};
 
 use crate::sizes::{
     ALARM_WORDS, MARK_WORDS, MARKS_WORDS, SETTINGS_HEAD, SETTINGS_WORDS, STATE_USED, STATE_WORDS,
@@ -16,6 +16,7 @@ pub struct Place {
     pub ghost below: { index < places },
 }
 
+// One function a block: what they answer differs in its length.
 impl Place {
     // The number of the alarm. `as` narrows: a place is below 36.
     pub fn number(self) -> u8
@@ -39,8 +40,8 @@ impl Place {
     }
 
     // In the block of counts and stamps.
-    pub fn marks_at(self) -> usize
-        ensures { result ≡ marks_at self.index }
+    pub fn mark_at(self) -> usize
+        ensures { result ≡ mark_at self.index }
     {
         MARK_WORDS * self.index
     }
@@ -61,9 +62,9 @@ impl Place {
 
     // Its counts and stamps.
     pub fn marks_in(self, marks: &[u64; MARKS_WORDS]) -> &[u64; MARK_WORDS]
-        ensures { result.now ≡ part marks.now (marks_at self.index) 25 }
+        ensures { result.now ≡ part marks.now (mark_at self.index) 25 }
     {
-        words_at(marks, self.marks_at())
+        words_at(marks, self.mark_at())
     }
 }
 

@@ -1,4 +1,4 @@
-// The sizes and offsets of the settings block, in words, and the word that says which layout it is.
+// The sizes and offsets of the blocks, in words, and the word that says which layout they have.
 
 // Places for alarms. Settings fill 24 of them.
 pub const PLACES: usize = 36;

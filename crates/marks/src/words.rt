@@ -11,11 +11,11 @@ use wire::choice::choose;
 pub const CONDITION_WORDS: usize = 4;
 
 // What a condition's three bits of an event word say, by what a one counts there.
-pub const ACKNOWLEDGED: u32 = 1;
+const ACKNOWLEDGED: u32 = 1;
 
-pub const RETURNED: u32 = 2;
+const RETURNED: u32 = 2;
 
-pub const ACTIVATED: u32 = 4;
+const ACTIVATED: u32 = 4;
 
 // What a scan did to a condition: whether it reset the counts, its events in the three lowest bits, AckRequired, when the row of scans that
 // met it began, and the scan's time.

@@ -62,7 +62,7 @@ fn mark_place(
     let Some(starts) = part.place.state_in(states).last_chunk() else {
         unreachable!()
     };
-    let (_, behind) = marks.split_at_mut(part.place.marks_at());
+    let (_, behind) = marks.split_at_mut(part.place.mark_at());
     let Some(own) = behind.first_chunk_mut() else {
         unreachable!()
     };

@@ -3,6 +3,8 @@
 ghost use Rattle.std.specs.Prelude.{◌≡◌, cond};
 ghost use Rattle.wire.specs.Internal.Places.{six_bits};
 
+use crate::choice::choose;
+
 pub const DISABLED: u32 = 1;
 
 pub const SUPPRESSED: u32 = 2;
@@ -77,5 +79,5 @@ pub const AT_ROCNEG: u32 = 32768;
 pub fn every(b: bool) -> u32
     ensures { result ≡ cond b six_bits 0 }
 {
-    if b { SIX } else { 0 }
+    choose(b, SIX, 0)
 }

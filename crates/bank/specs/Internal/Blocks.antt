@@ -5,8 +5,8 @@ use Rattle.bank.specs.declared.blocks.Blocks.{Blocks}
 use Rattle.bank.specs.declared.blocks.Kept.{Kept}
 use Rattle.bank.specs.Internal.Words.{words_in}
 
-abbrev pub words_of : Blocks → Words
-words_of b = words_in b.settings.now b.states.now b.marks.now
+abbrev pub words_under : Blocks → Words
+words_under b = words_in b.settings.now b.states.now b.marks.now
 
 -- what is kept is kept in the same words that were lent
 abbrev pub SameWords : Kept → Kept → Type 0

@@ -1,4 +1,4 @@
--- The settings block, 292 words: the layout word, the counts, and 8 words an alarm for 36 places.
+-- The settings block, 292 words: the layout word, the counts, and 8 words an alarm for 36 places; where an alarm's words begin in each block.
 use Rattle.std.specs.Prelude.{ℕ, zero, suc, ◌+◌, ◌*◌, ◌<◌, ◌≡◌, Bool, ◌&&◌, List, [], ◌∷◌, ◌++◌, eqb, length, get_or, set, replicate}
 use Rattle.layout.specs.Internal.Sizes.{settings_size}
 use Rattle.settings.specs.Refusals.{refusal}
@@ -26,8 +26,8 @@ abbrev pub state_at : ℕ → ℕ
 state_at place = 4 + 16 * place
 
 -- and its counts and stamps
-abbrev pub marks_at : ℕ → ℕ
-marks_at place = 25 * place
+abbrev pub mark_at : ℕ → ℕ
+mark_at place = 25 * place
 
 -- the layout word, the counts, and room for a third one
 abbrev pub head_words : Counts → List ℕ

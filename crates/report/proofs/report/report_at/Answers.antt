@@ -3,7 +3,7 @@ use borrow.Author.Rules.{rules}
 use native.Mathlib.Nat.{add-zero}
 use native.Mathlib.Omega.{arith}
 use Rattle.state.specs.Internal.State.{state_in}
-use Rattle.bank.specs.Internal.Blocks.{words_of}
+use Rattle.bank.specs.Internal.Blocks.{words_under}
 use Rattle.layout.proofs.Laws.{get_or-part, alarm-cut}
 use Rattle.state.proofs.Back.{state-cut}
 use Rattle.report.proofs.Reports.{report-on, statuses-cut}
@@ -13,7 +13,7 @@ pub returns : goal.returns
 unfolding state_in
 returns c =
     rw (
-      report-on (words_of c.args.bank.now) c.args.index (search rules) (search rules),
+      report-on (words_under c.args.bank.now) c.args.index (search rules) (search rules),
       c.whole_alarm.ensures,
       c.statuses.ensures,
       c.lower.ensures,
