@@ -1,2 +1,3 @@
 pub mod Laws
+pub mod Cut
 pub mod Sound

@@ -1,6 +1,9 @@
 // An alarm's record in a settings image.
-ghost use Rattle.std.specs.Prelude.{◌≡◌, ◌+◌, ◌≤◌, length};
-ghost use Rattle.settings_record.specs.Record.{limits_at, severities_at, size_of, record_at};
+ghost use Rattle.std.specs.Prelude.{◌≡◌, ◌+◌, ◌<◌, ◌≤◌, length, IfOk, IfErr};
+ghost use Rattle.wire.specs.Number.{part};
+ghost use Rattle.settings.specs.Refusals.{refusal};
+ghost use Rattle.settings.specs.declared.refusals.Reason.TheVariants.{Incomplete};
+ghost use Rattle.settings_record.specs.Record.{limits_at, severities_at, record_at};
 ghost use Rattle.settings_record.specs.Internal.Whole.{whole_record};
 
 use crate::fields::{
@@ -11,7 +14,7 @@ use crate::fields::{
 use settings::refusals::{Reason, Refusal};
 use settings::rules::{LONGEST_DURATION, levels_apart, numbers_in_range};
 use settings::types::{Alarm, Form, Kind, Limits, Severities};
-use wire::number::{LittleEndian, has};
+use wire::number::LittleEndian;
 
 // What a one counts behind the last flag of each form.
 const DIGITAL_FLAGS: u8 = 8;
@@ -19,43 +22,40 @@ const DIGITAL_FLAGS: u8 = 8;
 const ANALOG_FLAGS: u8 = 32;
 
 // Fields by name and no loop over offsets: which stands where is what a reader looks for.
-fn severities_at(image: &[u8], at: usize) -> Severities
-    requires { at + size_of Form.Analog ≤ length image.now }
-    ensures { result ≡ severities_at image.now at }
+fn severities_at(bytes: &[u8; ANALOG_SIZE]) -> Severities
+    ensures { result ≡ severities_at bytes.now 0 }
 {
     Severities {
-        hh: u32::get(image, at + SEVERITY_HH),
-        h: u32::get(image, at + SEVERITY_H),
-        l: u32::get(image, at + SEVERITY_L),
-        ll: u32::get(image, at + SEVERITY_LL),
-        rocpos: u32::get(image, at + SEVERITY_ROCPOS),
-        rocneg: u32::get(image, at + SEVERITY_ROCNEG),
+        hh: u32::get(bytes, SEVERITY_HH),
+        h: u32::get(bytes, SEVERITY_H),
+        l: u32::get(bytes, SEVERITY_L),
+        ll: u32::get(bytes, SEVERITY_LL),
+        rocpos: u32::get(bytes, SEVERITY_ROCPOS),
+        rocneg: u32::get(bytes, SEVERITY_ROCNEG),
     }
 }
 
-fn limits_at(image: &[u8], at: usize) -> Limits
-    requires { at + size_of Form.Analog ≤ length image.now }
-    ensures { result ≡ limits_at image.now at }
+fn limits_at(bytes: &[u8; ANALOG_SIZE]) -> Limits
+    ensures { result ≡ limits_at bytes.now 0 }
 {
     Limits {
-        hh: f32::get(image, at + LIMIT_HH),
-        h: f32::get(image, at + LIMIT_H),
-        l: f32::get(image, at + LIMIT_L),
-        ll: f32::get(image, at + LIMIT_LL),
-        deadband: f32::get(image, at + DEADBAND),
-        rocpos: f32::get(image, at + LIMIT_ROCPOS),
-        rocneg: f32::get(image, at + LIMIT_ROCNEG),
+        hh: f32::get(bytes, LIMIT_HH),
+        h: f32::get(bytes, LIMIT_H),
+        l: f32::get(bytes, LIMIT_L),
+        ll: f32::get(bytes, LIMIT_LL),
+        deadband: f32::get(bytes, DEADBAND),
+        rocpos: f32::get(bytes, LIMIT_ROCPOS),
+        rocneg: f32::get(bytes, LIMIT_ROCNEG),
     }
 }
 
 // The checks of a digital record that is there whole. No function for both forms is plainer: they read, check and keep other fields.
-fn digital_record(image: &[u8], at: usize) -> Result<(Alarm, usize), Refusal>
-    requires { at + size_of Form.Digital ≤ length image.now }
-    ensures { result ≡ whole_record Form.Digital image.now at }
+fn digital_record(bytes: &[u8; DIGITAL_SIZE], at: usize) -> Result<Alarm, Refusal>
+    ensures { result ≡ whole_record Form.Digital bytes.now at }
 {
-    let flags = image[at];
-    let severity = u32::get(image, at + SEVERITY);
-    let duration = u32::get(image, at + DIGITAL_DURATION);
+    let flags = bytes[0];
+    let severity = u32::get(bytes, SEVERITY);
+    let duration = u32::get(bytes, DIGITAL_DURATION);
     if DIGITAL_FLAGS <= flags {
         return Err(Reason::UnknownFlag.at(at));
     }
@@ -63,24 +63,22 @@ fn digital_record(image: &[u8], at: usize) -> Result<(Alarm, usize), Refusal>
         return Err(Reason::OutOfRange.at(at));
     }
     let kind = Kind::Digital { severity };
-    let alarm = Alarm {
+    Ok(Alarm {
         flags,
         duration,
         kind,
-    };
-    Ok((alarm, at + DIGITAL_SIZE))
+    })
 }
 
 // The checks of an analog record that is there whole.
-fn analog_record(image: &[u8], at: usize) -> Result<(Alarm, usize), Refusal>
-    requires { at + size_of Form.Analog ≤ length image.now }
-    ensures { result ≡ whole_record Form.Analog image.now at }
+fn analog_record(bytes: &[u8; ANALOG_SIZE], at: usize) -> Result<Alarm, Refusal>
+    ensures { result ≡ whole_record Form.Analog bytes.now at }
 {
-    let flags = image[at];
-    let severities = severities_at(image, at);
-    let limits = limits_at(image, at);
-    let period = u32::get(image, at + PERIOD);
-    let duration = u32::get(image, at + ANALOG_DURATION);
+    let flags = bytes[0];
+    let severities = severities_at(bytes);
+    let limits = limits_at(bytes);
+    let period = u32::get(bytes, PERIOD);
+    let duration = u32::get(bytes, ANALOG_DURATION);
     if ANALOG_FLAGS <= flags {
         return Err(Reason::UnknownFlag.at(at));
     }
@@ -95,33 +93,36 @@ fn analog_record(image: &[u8], at: usize) -> Result<(Alarm, usize), Refusal>
         severities,
         period,
     };
-    let alarm = Alarm {
+    Ok(Alarm {
         flags,
         duration,
         kind,
-    };
-    Ok((alarm, at + ANALOG_SIZE))
+    })
 }
 
-// How long a record is. A name of its own, so that callers read one clause and no match.
-pub fn record_size(form: Form) -> usize
-    ensures { result ≡ size_of form }
+// The bytes of a record, as many as the caller takes, or the refusal where they don't stand there whole.
+fn bytes_at<const N: usize>(image: &[u8], at: usize) -> Result<&[u8; N], Refusal>
+    ensures whole { IfOk result (λ bytes. (at + N ≤ length image.now) × (bytes.now ≡ part image.now at N)) }
+    ensures short { IfErr result (λ e. (length image.now < at + N) × (e ≡ refusal Incomplete at)) }
 {
-    match form {
-        Form::Digital => DIGITAL_SIZE,
-        Form::Analog => ANALOG_SIZE,
-    }
+    let Some(bytes) = image.get(at..).and_then(<[u8]>::first_chunk) else {
+        return Err(Reason::Incomplete.at(at));
+    };
+    Ok(bytes)
 }
 
 // An alarm's settings and the offset past its record, or the refusal.
 pub fn record_at(image: &[u8], at: usize, form: Form) -> Result<(Alarm, usize), Refusal>
     ensures { result ≡ record_at form image.now at }
 {
-    if !has(image, at, record_size(form)) {
-        return Err(Reason::Incomplete.at(at));
-    }
     match form {
-        Form::Digital => digital_record(image, at),
-        Form::Analog => analog_record(image, at),
+        Form::Digital => {
+            let alarm = digital_record(bytes_at(image, at)?, at)?;
+            Ok((alarm, at + DIGITAL_SIZE))
+        }
+        Form::Analog => {
+            let alarm = analog_record(bytes_at(image, at)?, at)?;
+            Ok((alarm, at + ANALOG_SIZE))
+        }
     }
 }

@@ -2,7 +2,7 @@
 use mathlib.Core.Path.{◌≡◌, refl, sym, ap, ap₂, ◌∙◌}
 use mathlib.Core.List.{List, [], ◌∷◌, ◌++◌}
 use mathlib.Core.Logic.{◌⊎◌, inl, inr}
-use Prim.Native.Nat.{ℕ, zero, suc, ◌+◌, ◌*◌, ◌/◌, ◌%◌, ◌^◌, ◌≤◌, ◌<◌}
+use Prim.Native.Nat.{ℕ, zero, suc, ◌+◌, ◌-◌, ◌*◌, ◌/◌, ◌%◌, ◌^◌, ◌≤◌, ◌<◌}
 use native.Mathlib.Nat.{eq-or-lt_of_le, le_of_suc-le-suc, add-zero, add-suc, mul-zero, add_assoc, zero-add, pow-zero, pow-suc, pow-succ', div-one}
 use native.Mathlib.Nat.{div-div-eq-div-mul, one-mul, mul_assoc, mul-add, mul_comm, suc-add, lt_of_not-le, not-le_of_lt}
 use native.Mathlib.Numerals.{add-one}
@@ -13,7 +13,8 @@ use lib.Dec.{T, leb, ltb, ltb→lt}
 use lib.Pow.{are_bytes}
 use lib.Ieee.Fits.{and_i, and_l, and_r}
 use lib.ListN.{length, get_or, take, drop, set, length-append, length-take, length-drop}
-use lib.Seq.{drop-cons, take-add, take-suc, drop-drop, sets, take_all}
+use lib.Seq.{drop-cons, take-add, take-suc, take-take, drop-drop, sets, take_all}
+use Rattle.std.proofs.lemmas.List.{drop-take}
 use Rattle.std.specs.Int.{sum_through, byte_worth, bytes_low_first}
 use Rattle.wire.specs.Number.{part, value, number, bytes}
 use Rattle.wire.specs.Internal.Words.{words}
@@ -27,6 +28,14 @@ length_part s at n h = simp (length-take, length-drop) (omega arith)
 
 pub part-add : (s : List ℕ) (at n m : ℕ) → part s at (n + m) ≡ part s at n ++ part s (at + n) m
 part-add s at n m = take-add n m (drop at s) ∙ ap (λ (l : List ℕ). part s at n ++ take m l) (drop-drop n at s)
+
+-- what is read of a part, within it, is read of the whole
+pub part-part : (s : List ℕ) (at n k m : ℕ) → k + m ≤ n → part (part s at n) k m ≡ part s (at + k) m
+part-part s at n k m h =
+    let e : k + (n - k) ≡ n = omega arith in
+    ap (λ (j : ℕ). part (take j (drop at s)) k m) (sym e) ∙ ap (take m) (drop-take k (n - k) (drop at s))
+    ∙ take-take m (n - k) (drop k (drop at s)) (omega arith)
+    ∙ ap (take m) (drop-drop k at s)
 
 pub value-append : (xs ys : List ℕ) → value (xs ++ ys) ≡ value xs + 256 ^ length xs * value ys
 unfolding value

@@ -1,5 +1,5 @@
 // Values that stand in a slice of bytes, the lowest byte first.
-ghost use Rattle.std.specs.Prelude.{◌≡◌, ℕ, List, ◌+◌, ◌^◌, ◌≤◌, ◌<◌, leb, length};
+ghost use Rattle.std.specs.Prelude.{◌≡◌, ℕ, List, ◌+◌, ◌^◌, ◌≤◌, ◌<◌, length};
 ghost use Rattle.std.proofs.lemmas.List.Edits.{sets};
 ghost use Rattle.wire.specs.Number.{part, number, bytes};
 ghost use Rattle.wire.specs.Internal.Kept.{length-bytes, number-back};
@@ -107,11 +107,4 @@ impl LittleEndian for u64 {
     ghost fills_width = { length-bytes 8 };
 
     ghost gives_back = { number-back 8 };
-}
-
-// Whether n bytes stand from offset `at` on.
-pub fn has(s: &[u8], at: usize, n: usize) -> bool
-    ensures { result ≡ leb (at + n) (length s.now) }
-{
-    at <= s.len() && n <= s.len() - at
 }

@@ -1,42 +1,44 @@
--- `settings_record::record::record_at` meets its contract: a record that is there whole is read as its form says. Assumes nothing.
-use mathlib.Core.Bool.{Bool, true}
-use lib.Dec.{leb}
-use lib.ListN.{length}
-use Prim.Native.Nat.{ℕ, ◌+◌, ◌≤◌}
-use mathlib.Core.Path.{◌≡◌, sym, ◌∙◌}
-use Rattle.settings.specs.declared.types.Form.{Form}
-use borrow.Author.Tests.{le-leb, leb-true}
-use Rattle.settings_record.specs.Record.{size_of, record_at}
-use Rattle.settings.specs.Refusals.{checked}
+-- `settings_record::record::record_at` meets its contract: what its form's function makes of the bytes that were cut out. Assumes nothing.
+use mathlib.Core.Path.{sym, ◌∙◌}
+use Rattle.std.proofs.lemmas.Result.{err_from_is_err_and}
+use Rattle.settings.specs.declared.types.Form.TheVariants.{Digital as DigitalForm, Analog as AnalogForm}
+use Rattle.settings_record.proofs.Cut.{record-cut, record-short}
 use Rattle.settings_record.proofs.record.record_at.Goals as goal
 
-pub returns-then-not-has : goal.returns-then-not-has
-unfolding record_at checked
-returns-then-not-has c =
-    rw c.at.ensures (simp (← c.record_size.ensures, ← c.has.ensures, c.if-not-has.true))
+pub returns-in_err-bytes_at-in-Digital : goal.returns-in_err-bytes_at-in-Digital
+returns-in_err-bytes_at-in-Digital c =
+    let e = c.in_err-bytes_at-in-Digital.ensures.short in
+    let p = err_from_is_err_and c.from_residual.result c.from_residual.ensures.1 in
+    rw (p.1, p.2, c.in-Digital.is, e.1) (sym (record-short DigitalForm c.args.image.now c.args.at e.0))
 
--- the record is there whole
-there : {r : Bool} {size : ℕ} (form : Form) (at len : ℕ) → size ≡ size_of form → r ≡ leb (at + size) len → r ≡ true → at + size_of form ≤ len
-there {r} {size} form at len e f g = rw e at (leb-true (at + size) len (sym f ∙ g))
+pub returns-in_err-alarm-in-Digital : goal.returns-in_err-alarm-in-Digital
+returns-in_err-alarm-in-Digital c =
+    let a = c.args in
+    let refused = sym c.digital_record.ensures ∙ c.in_err-alarm-in-Digital.was in
+    let p = err_from_is_err_and c.from_residual-in_err-alarm-in-Digital.result c.from_residual-in_err-alarm-in-Digital.ensures.1 in
+    rw (p.1, p.2, c.in-Digital.is) (sym (record-cut DigitalForm a.image.now a.at c.in_ok-bytes_at-in-Digital.ensures.whole refused))
 
-pub digital_record-requires : goal.digital_record-requires
-digital_record-requires c =
-    let whole = there c.args.form c.args.at (length c.args.image.now) c.record_size.ensures c.has.ensures c.if-not-has.false in
-    rw c.in-Digital.is at whole
+pub returns-in_ok-alarm-in-Digital : goal.returns-in_ok-alarm-in-Digital
+returns-in_ok-alarm-in-Digital c =
+    let a = c.args in
+    let read = sym c.digital_record.ensures ∙ c.in_ok-alarm-in-Digital.was in
+    rw c.in-Digital.is (sym (record-cut DigitalForm a.image.now a.at c.in_ok-bytes_at-in-Digital.ensures.whole read))
 
-pub analog_record-requires : goal.analog_record-requires
-analog_record-requires c =
-    let whole = there c.args.form c.args.at (length c.args.image.now) c.record_size.ensures c.has.ensures c.if-not-has.false in
-    rw c.in-Analog.is at whole
+pub returns-in_err-bytes_at-in-Analog : goal.returns-in_err-bytes_at-in-Analog
+returns-in_err-bytes_at-in-Analog c =
+    let e = c.in_err-bytes_at-in-Analog.ensures.short in
+    let p = err_from_is_err_and c.from_residual-in_err-bytes_at-in-Analog.result c.from_residual-in_err-bytes_at-in-Analog.ensures.1 in
+    rw (p.1, p.2, c.in-Analog.is, e.1) (sym (record-short AnalogForm c.args.image.now c.args.at e.0))
 
-pub returns-in-Digital : goal.returns-in-Digital
-unfolding record_at checked
-returns-in-Digital c =
-    let whole = there c.args.form c.args.at (length c.args.image.now) c.record_size.ensures c.has.ensures c.if-not-has.false in
-    simp (c.in-Digital.is, le-leb _ _ (rw c.in-Digital.is at whole), ← c.digital_record.ensures)
+pub returns-in_err-alarm-in-Analog : goal.returns-in_err-alarm-in-Analog
+returns-in_err-alarm-in-Analog c =
+    let a = c.args in
+    let refused = sym c.analog_record.ensures ∙ c.in_err-alarm-in-Analog.was in
+    let p = err_from_is_err_and c.from_residual-in_err-alarm-in-Analog.result c.from_residual-in_err-alarm-in-Analog.ensures.1 in
+    rw (p.1, p.2, c.in-Analog.is) (sym (record-cut AnalogForm a.image.now a.at c.in_ok-bytes_at-in-Analog.ensures.whole refused))
 
-pub returns-in-Analog : goal.returns-in-Analog
-unfolding record_at checked
-returns-in-Analog c =
-    let whole = there c.args.form c.args.at (length c.args.image.now) c.record_size.ensures c.has.ensures c.if-not-has.false in
-    simp (c.in-Analog.is, le-leb _ _ (rw c.in-Analog.is at whole), ← c.analog_record.ensures)
+pub returns-in_ok-alarm-in-Analog : goal.returns-in_ok-alarm-in-Analog
+returns-in_ok-alarm-in-Analog c =
+    let a = c.args in
+    let read = sym c.analog_record.ensures ∙ c.in_ok-alarm-in-Analog.was in
+    rw c.in-Analog.is (sym (record-cut AnalogForm a.image.now a.at c.in_ok-bytes_at-in-Analog.ensures.whole read))
