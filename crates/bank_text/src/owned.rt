@@ -14,7 +14,7 @@ use layout::block::counts_in;
 use layout::sizes::{MARKS_WORDS, SETTINGS_WORDS, STATES_WORDS};
 use report::report::{AlarmReport, report};
 use scan::scan::scan;
-use settings::counts::{Counts, are_good, form_at, in_all};
+use settings::counts::{Counts, form_at, good_counts};
 use settings::refusals::Refusal;
 use settings::types::Form;
 
@@ -94,8 +94,10 @@ impl Bank {
     pub fn alarms(&self) -> usize
         ensures { result ≡ alarms_of (words_of self.now) }
     {
-        let counts = self.counts();
-        if are_good(counts) { in_all(counts) } else { 0 }
+        match good_counts(self.counts()) {
+            Some(good) => good.in_all(),
+            None => 0,
+        }
     }
 
     // The form of the alarm with a number, if there is one.

@@ -3,7 +3,6 @@ ghost use Rattle.std.specs.Prelude.{◌≡◌, ◌+◌, ◌*◌, ◌≤◌, ◌<
 ghost use Rattle.std.proofs.lemmas.List.Edits.{sets};
 ghost use Rattle.std.proofs.Math.Seq.{slice};
 ghost use Rattle.settings.specs.Counts.{all_most};
-ghost use Rattle.settings.specs.Internal.Few.{Few};
 ghost use Rattle.wire.specs.Internal.Words.{words};
 ghost use Rattle.settings_record.specs.Record.{size_of};
 ghost use Rattle.image.specs.Internal.Write.{digital_bytes, analog_bytes, record_bytes, records_bytes, section_bytes, read_as};
@@ -15,7 +14,7 @@ use layout::block::{Block, block_in, counts_in};
 use layout::place::Place;
 use layout::read::alarm_in;
 use layout::sizes::SETTINGS_WORDS;
-use settings::counts::{Counts, MOST, are_good, sum_of};
+use settings::counts::{Counts, GoodCounts, MOST, good_counts};
 use settings::refusals::{Reason, Refusal};
 use settings::types::{Alarm, Form, Kind, Limits, Severities};
 use settings_record::fields::{ANALOG_SIZE, DIGITAL_SIZE};
@@ -149,21 +148,20 @@ fn put_section(
 }
 
 // The length of the image of settings with these counts. A name of its own, so that callers read one clause and no sum.
-fn image_size(counts: Counts) -> usize
-    requires { Few counts }
-    ensures { result ≡ size_of_image counts }
+fn image_size(good: GoodCounts) -> usize
+    ensures { result ≡ size_of_image good.counts }
 {
-    COUNTS + sum_of(counts, DIGITAL_SIZE, ANALOG_SIZE)
+    COUNTS + good.sum_of(DIGITAL_SIZE, ANALOG_SIZE)
 }
 
 // Whether settings with these counts have an image of at most `len` bytes.
 fn has_room(counts: Counts, len: usize) -> bool
     ensures { result ≡ has_room counts len }
 {
-    if !are_good(counts) {
-        return false;
+    match good_counts(counts) {
+        Some(good) => image_size(good) <= len,
+        None => false,
     }
-    image_size(counts) <= len
 }
 
 // Writes the image of the settings in a block.

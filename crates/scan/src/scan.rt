@@ -1,9 +1,7 @@
 // One scan of a bank, in place.
 ghost use Rattle.std.specs.Prelude.{◌≡◌, length};
-ghost use Rattle.settings.specs.Internal.Few.{Few};
 ghost use Rattle.bank.specs.Internal.Words.{words_in, bank_in};
-ghost use Rattle.bank.specs.Internal.Blocks.{SameWords};
-ghost use Rattle.sweep.specs.Internal.Scan.{scan_words};
+ghost use Rattle.bank.specs.Internal.Blocks.{kept_words, SameWords};
 ghost use Rattle.sweep.specs.Internal.Sweep.{Ready, most_bytes};
 ghost use Rattle.scan.specs.Internal.Scan.{event_buffer};
 ghost use Rattle.scan.specs.Internal.Words.{checked_answer, checked_words, checked_out, bank_answer, bank_words, answer_of, scanned_words, buffer_of};
@@ -13,11 +11,9 @@ use event::write::EVENT_SIZE;
 use layout::block::{Block, block_in, counts_in};
 use layout::sizes::{LAST_TIME, SETTINGS_WORDS};
 use scan_record::check::check_record;
-use settings::counts::{Counts, MOST, sum_of};
+use settings::counts::{GoodCounts, MOST};
 use settings::refusals::{Reason, Refusal};
 use sweep::alarms::scan_alarms;
-use sweep::part::Scan;
-use wire::number::LittleEndian;
 
 // Bytes of events that an alarm has at most in a scan: 5 events of a digital one, 15 of an analog one.
 const DIGITAL_MOST: usize = 5 * EVENT_SIZE;
@@ -28,27 +24,27 @@ const ANALOG_MOST: usize = 15 * EVENT_SIZE;
 pub const EVENTS_ENOUGH: usize = MOST * (DIGITAL_MOST + ANALOG_MOST);
 
 // Bytes of events that a scan of so many alarms has at most. A name of its own, so that callers read one clause and no sum.
-fn most_bytes(counts: Counts) -> usize
-    requires { Few counts }
-    ensures { result ≡ most_bytes counts }
+fn most_bytes(good: GoodCounts) -> usize
+    ensures { result ≡ most_bytes good.counts }
 {
-    sum_of(counts, DIGITAL_MOST, ANALOG_MOST)
+    good.sum_of(DIGITAL_MOST, ANALOG_MOST)
 }
 
 // Runs a checked record where the buffer may be too short: on copies, with a buffer that suffices, and takes them over if it was
 // not. A refused scan writes nothing.
 fn scan_short(
-    scan: &Scan<'_>,
+    settings: &[u64; SETTINGS_WORDS],
     kept: &mut Kept<'_>,
+    bytes: &[u8],
     out: &mut [u8],
-    counts: Counts,
+    good: GoodCounts,
 ) -> Result<usize, Refusal>
-    requires { Ready (scan_words scan.now kept.old) scan.now.bytes.now counts }
-    ensures value { result ≡ checked_answer (scan_words scan.now kept.old) scan.now.bytes.now (length out.old) }
+    requires { Ready (kept_words settings.now kept.old) bytes.now good.counts }
+    ensures value { result ≡ checked_answer (kept_words settings.now kept.old) bytes.now (length out.old) }
     ensures same { SameWords kept.old kept.new }
-    ensures states_after { kept.new.states.now ≡ (checked_words (scan_words scan.now kept.old) scan.now.bytes.now (length out.old)).states }
-    ensures marks_after { kept.new.marks.now ≡ (checked_words (scan_words scan.now kept.old) scan.now.bytes.now (length out.old)).marks }
-    ensures out_after { out.new ≡ checked_out (scan_words scan.now kept.old) scan.now.bytes.now out.old }
+    ensures states_after { kept.new.states.now ≡ (checked_words (kept_words settings.now kept.old) bytes.now (length out.old)).states }
+    ensures marks_after { kept.new.marks.now ≡ (checked_words (kept_words settings.now kept.old) bytes.now (length out.old)).marks }
+    ensures out_after { out.new ≡ checked_out (kept_words settings.now kept.old) bytes.now out.old }
 {
     let mut states = *kept.states;
     let mut marks = *kept.marks;
@@ -57,7 +53,7 @@ fn scan_short(
         marks: &mut marks,
     };
     let mut events = [0; EVENTS_ENOUGH];
-    let used = scan_alarms(scan, &mut stepped, &mut events, counts);
+    let used = scan_alarms(settings, &mut stepped, bytes, &mut events, good);
     if out.len() < used {
         return Err(Reason::EventsTooLong.at(0));
     }
@@ -74,23 +70,19 @@ fn scan_bank(
     bytes: &[u8],
     out: &mut [u8],
 ) -> Result<usize, Refusal>
-    ensures value { result ≡ bank_answer (words_in settings.now kept.old.states.now kept.old.marks.now) bytes.now (length out.old) }
+    ensures value { result ≡ bank_answer (kept_words settings.now kept.old) bytes.now (length out.old) }
     ensures same { SameWords kept.old kept.new }
-    ensures states_after { kept.new.states.now ≡ (bank_words (words_in settings.now kept.old.states.now kept.old.marks.now) bytes.now (length out.old)).states }
-    ensures marks_after { kept.new.marks.now ≡ (bank_words (words_in settings.now kept.old.states.now kept.old.marks.now) bytes.now (length out.old)).marks }
-    ensures out_after { out.new ≡ event_buffer (bank_in (words_in settings.now kept.old.states.now kept.old.marks.now)) bytes.now out.old }
+    ensures states_after { kept.new.states.now ≡ (bank_words (kept_words settings.now kept.old) bytes.now (length out.old)).states }
+    ensures marks_after { kept.new.marks.now ≡ (bank_words (kept_words settings.now kept.old) bytes.now (length out.old)).marks }
+    ensures out_after { out.new ≡ event_buffer (bank_in (kept_words settings.now kept.old)) bytes.now out.old }
 {
     let counts = counts_in(settings);
     check_record(bytes, counts, kept.states[LAST_TIME])?;
-    let scan = Scan {
-        settings,
-        bytes,
-        time: u64::get(bytes, 0),
-    };
-    if out.len() < most_bytes(counts) {
-        return scan_short(&scan, kept, out, counts);
+    let good = GoodCounts { counts };
+    if out.len() < most_bytes(good) {
+        return scan_short(settings, kept, bytes, out, good);
     }
-    let used = scan_alarms(&scan, kept, out, counts);
+    let used = scan_alarms(settings, kept, bytes, out, good);
     Ok(used / EVENT_SIZE)
 }
 

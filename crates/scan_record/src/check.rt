@@ -1,35 +1,33 @@
 // The check of a whole scan record.
-ghost use Rattle.std.specs.Prelude.{◌≡◌, ◌&&◌, eqb, ◌+◌, ◌*◌, ◌-◌, ◌≤◌, length};
+ghost use Rattle.std.specs.Prelude.{◌≡◌, ◌&&◌, true, false, eqb, ◌+◌, ◌*◌, ◌-◌, ◌≤◌, length, MatchOption};
 ghost use Rattle.scan_record.specs.Part.{entry_size, record_size};
 ghost use Rattle.settings.specs.Counts.{are_good, in_all};
-ghost use Rattle.settings.specs.Internal.Few.{Few};
 ghost use Rattle.scan_record.specs.Internal.Size.{length_of};
 ghost use Rattle.scan_record.specs.Internal.Forms.{check_form};
 ghost use Rattle.scan_record.specs.Check.{check_from, check_record};
 
 use crate::entry::entry_at;
 use crate::part::{ANALOG_PART, DIGITAL_PART, TIME_SIZE, analog_begin};
-use settings::counts::{Counts, are_good, in_all, sum_of};
+use settings::counts::{Counts, GoodCounts, good_counts};
 use settings::refusals::{Reason, Refusal};
 use settings::types::Form;
 use wire::number::LittleEndian;
 
-// The length of a record, of counts that a bank may have. A name of its own, so that callers read one clause and no sum.
-fn length_of(counts: Counts) -> usize
-    requires { Few counts }
-    ensures { result ≡ record_size counts }
+// The length of a record. A name of its own, so that callers read one clause and no sum.
+fn length_of(good: GoodCounts) -> usize
+    ensures { result ≡ record_size good.counts }
 {
-    TIME_SIZE + sum_of(counts, DIGITAL_PART, ANALOG_PART)
+    TIME_SIZE + good.sum_of(DIGITAL_PART, ANALOG_PART)
 }
 
 // The length of the records of a bank with these counts.
 pub fn record_length(counts: Counts) -> usize
     ensures { (result ≡ length_of counts) × (8 ≤ result) }
 {
-    if !are_good(counts) {
-        return TIME_SIZE;
+    match good_counts(counts) {
+        Some(good) => length_of(good),
+        None => TIME_SIZE,
     }
-    length_of(counts)
 }
 
 // Checks the alarms of one form, at the places from `first` to before `end`, whose parts begin at `begin`, in number order, and answers
@@ -54,32 +52,38 @@ fn check_form(
 
 // Checks each alarm in number order, the digital ones first, and answers the first refusal, of a record that has the
 // right length.
-fn check_alarms(bytes: &[u8], counts: Counts) -> Result<(), Refusal>
-    requires few { Few counts }
-    requires bytes_len { length bytes.now ≡ record_size counts }
-    ensures { result ≡ check_from bytes.now counts (in_all counts) 0 8 }
+fn check_alarms(bytes: &[u8], good: GoodCounts) -> Result<(), Refusal>
+    requires { length bytes.now ≡ record_size good.counts }
+    ensures { result ≡ check_from bytes.now good.counts (in_all good.counts) 0 8 }
 {
-    check_form(bytes, Form::Digital, TIME_SIZE, 0, counts.digital)?;
-    let begin = analog_begin(counts);
-    check_form(bytes, Form::Analog, begin, counts.digital, in_all(counts))
+    let digital = good.counts.digital;
+    check_form(bytes, Form::Digital, TIME_SIZE, 0, digital)?;
+    let begin = analog_begin(good);
+    check_form(bytes, Form::Analog, begin, digital, good.in_all())
 }
 
-// Whether a bank may have these counts, and its records have `len` bytes.
-fn is_whole(counts: Counts, len: usize) -> bool
-    ensures { result ≡ are_good counts && eqb len (record_size counts) }
+// The counts, if a bank may have them and its records have `len` bytes.
+fn whole_counts(counts: Counts, len: usize) -> Option<GoodCounts>
+    ensures { MatchOption result (are_good counts && eqb len (record_size counts) ≡ false)
+        (λ good. (are_good counts && eqb len (record_size counts) ≡ true) × (good.counts ≡ counts)) }
 {
-    are_good(counts) & (len == record_length(counts))
+    let good = good_counts(counts)?;
+    if len == length_of(good) {
+        Some(good)
+    } else {
+        None
+    }
 }
 
 // Checks a record against a bank's counts and the time of the last accepted scan.
 pub fn check_record(bytes: &[u8], counts: Counts, last: u64) -> Result<(), Refusal>
     ensures { result ≡ check_record counts last bytes.now }
 {
-    if !is_whole(counts, bytes.len()) {
+    let Some(good) = whole_counts(counts, bytes.len()) else {
         return Err(Reason::WrongLength.at(0));
-    }
+    };
     if u64::get(bytes, 0) < last {
         return Err(Reason::EarlierTime.at(0));
     }
-    check_alarms(bytes, counts)
+    check_alarms(bytes, good)
 }

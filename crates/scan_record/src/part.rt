@@ -1,9 +1,8 @@
 // Where things stand in a scan record: the time, then each alarm's part, a reading and a command word of four bytes.
 ghost use Rattle.std.specs.Prelude.{◌≡◌};
-ghost use Rattle.settings.specs.Internal.Few.{Few};
 ghost use Rattle.scan_record.specs.Part.{entry_size, offset_of};
 
-use settings::counts::Counts;
+use settings::counts::GoodCounts;
 use settings::types::Form;
 
 pub const TIME_SIZE: usize = 8;
@@ -29,9 +28,8 @@ pub fn part_size(form: Form) -> usize
 }
 
 // Where the analog alarms' parts begin: behind the time and the digital alarms' parts.
-pub fn analog_begin(counts: Counts) -> usize
-    requires { Few counts }
-    ensures { result ≡ offset_of counts counts.digital }
+pub fn analog_begin(good: GoodCounts) -> usize
+    ensures { result ≡ offset_of good.counts good.counts.digital }
 {
-    TIME_SIZE + DIGITAL_PART * counts.digital
+    TIME_SIZE + DIGITAL_PART * good.counts.digital
 }

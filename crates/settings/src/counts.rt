@@ -1,5 +1,5 @@
 // How many alarms of each form a bank has.
-ghost use Rattle.std.specs.Prelude.{◌≡◌, ◌+◌, ◌*◌, ◌≤◌};
+ghost use Rattle.std.specs.Prelude.{◌≡◌, ◌+◌, ◌*◌, ◌≤◌, true, false, MatchOption};
 ghost use Rattle.settings.specs.Counts.{are_good, in_all, form_at};
 ghost use Rattle.settings.specs.Internal.Few.{Few};
 
@@ -16,27 +16,38 @@ pub struct Counts {
     pub analog: usize,
 }
 
-// Whether a bank may have so many.
-pub fn are_good(counts: Counts) -> bool
-    ensures { result ≡ are_good counts }
-{
-    (counts.digital <= MOST) & (counts.analog <= MOST)
+// Counts that a bank may have.
+#[derive(Clone, Copy, Debug, PartialEq, Eq)]
+pub struct GoodCounts {
+    pub counts: Counts,
+    pub ghost few: { Few counts },
 }
 
-pub fn in_all(counts: Counts) -> usize
-    requires { Few counts }
-    ensures { result ≡ in_all counts }
+// The counts, if a bank may have so many.
+pub fn good_counts(counts: Counts) -> Option<GoodCounts>
+    ensures { MatchOption result (are_good counts ≡ false) (λ good. (are_good counts ≡ true) × (good.counts ≡ counts)) }
 {
-    counts.digital + counts.analog
+    if (counts.digital <= MOST) & (counts.analog <= MOST) {
+        Some(GoodCounts { counts })
+    } else {
+        None
+    }
 }
 
-// What the alarms of a bank come to, where one of each form comes to so much.
-pub fn sum_of(counts: Counts, digital: usize, analog: usize) -> usize
-    requires few { Few counts }
-    requires small { (digital ≤ 65536) × (analog ≤ 65536) }
-    ensures { result ≡ digital * counts.digital + analog * counts.analog }
-{
-    digital * counts.digital + analog * counts.analog
+impl GoodCounts {
+    pub fn in_all(self) -> usize
+        ensures { result ≡ in_all self.counts }
+    {
+        self.counts.digital + self.counts.analog
+    }
+
+    // What the alarms of a bank come to, where one of each form comes to so much.
+    pub fn sum_of(self, digital: usize, analog: usize) -> usize
+        requires { (digital ≤ 65536) × (analog ≤ 65536) }
+        ensures { result ≡ digital * self.counts.digital + analog * self.counts.analog }
+    {
+        digital * self.counts.digital + analog * self.counts.analog
+    }
 }
 
 // The form of the alarm at a place.

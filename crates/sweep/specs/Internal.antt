@@ -2,4 +2,3 @@
 pub mod Step
 pub mod Sweep
 pub mod Part
-pub mod Scan

@@ -1,18 +1,13 @@
--- `image::write::has_room` meets its contract: each return takes the case that its test led to. Assumes nothing.
-use Rattle.settings.proofs.Few.{few}
+-- `image::write::has_room` meets its contract: each arm takes the case of its counts. Assumes nothing.
 use Rattle.image.specs.Internal.Write.{has_room}
 use Rattle.image.proofs.write.has_room.Goals as goal
 
-pub returns-then-not-are_good : goal.returns-then-not-are_good
+pub returns-in-Some : goal.returns-in-Some
 unfolding has_room
-returns-then-not-are_good c = simp (← c.are_good.ensures, c.if-not-are_good.true)
+returns-in-Some c =
+    let good = c.in-Some.ensures in
+    simp (good.0, c.image_size.ensures, good.1)
 
-pub image_size-requires : goal.image_size-requires
-image_size-requires c =
-    few c.args.counts c.are_good.ensures (c.if-not-are_good.false)
-
-pub returns : goal.returns
+pub returns-in-None : goal.returns-in-None
 unfolding has_room
-returns c =
-    let b = c.are_good in
-    simp (← b.ensures, c.if-not-are_good.false, c.image_size.ensures)
+returns-in-None c = simp c.in-None.ensures

@@ -1,18 +1,13 @@
--- `report::report::is_there` meets its contract: each return takes the case that its test led to. Assumes nothing.
-use Rattle.settings.proofs.Few.{few}
+-- `report::report::is_there` meets its contract: each arm takes the case of its counts. Assumes nothing.
 use Rattle.report.specs.Internal.Report.{is_there}
 use Rattle.report.proofs.report.is_there.Goals as goal
 
-pub returns-then-not-are_good : goal.returns-then-not-are_good
+pub returns-in-Some : goal.returns-in-Some
 unfolding is_there
-returns-then-not-are_good c = simp (← c.are_good.ensures, c.if-not-are_good.true)
+returns-in-Some c =
+    let good = c.in-Some.ensures in
+    simp (good.0, c.in_all.ensures, good.1)
 
-pub in_all-requires : goal.in_all-requires
-in_all-requires c =
-    few c.args.counts c.are_good.ensures (c.if-not-are_good.false)
-
-pub returns : goal.returns
+pub returns-in-None : goal.returns-in-None
 unfolding is_there
-returns c =
-    let b = c.are_good in
-    simp (← b.ensures, c.if-not-are_good.false, c.in_all.ensures)
+returns-in-None c = simp c.in-None.ensures

@@ -38,7 +38,7 @@ pub returns-in_default-as_mut_array-2 : goal.returns-in_default-as_mut_array-2
 returns-in_default-as_mut_array-2 c =
     let a = c.args in
     let w : Words = words_in a.settings.now a.states.now a.marks.now in
-    let none = of-none w a.bytes.now (length a.out.now) a.out.now 
+    let none = of-none w a.bytes.now (length a.out.now) a.out.now
     (no-marks w c.in-Some.ensures.0 c.in-Some-as_mut_array.ensures.cases.long c.in_default-as_mut_array-2.ensures.cases) in
     record {
       value = rw c.missing-in_default-as_mut_array-2.ensures none.answer-is;

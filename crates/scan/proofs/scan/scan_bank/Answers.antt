@@ -5,7 +5,8 @@ use Prim.Native.Nat.{ℕ, ◌/◌, ◌≤◌}
 use native.Mathlib.Omega.{arith}
 use lib.ListN.{length}
 use Rattle.bank.specs.Lent.{Words}
-use Rattle.bank.specs.Internal.Words.{words_in, bank_in}
+use Rattle.bank.specs.Internal.Words.{bank_in}
+use Rattle.bank.specs.Internal.Blocks.{kept_words}
 use Rattle.sweep.specs.Internal.Sweep.{log_after}
 use Rattle.sweep.proofs.Room.{room_after}
 use Rattle.std.proofs.Common.{Ok}
@@ -19,7 +20,7 @@ pub returns-in_err-check_record : goal.returns-in_err-check_record
 returns-in_err-check_record c =
     let a = c.args in
     let rec : List ℕ = a.bytes.now in
-    let w : Words = words_in a.settings.now a.kept.now.states.now a.kept.now.marks.now in
+    let w : Words = kept_words a.settings.now a.kept.now in
     let refused = check-is w rec c.counts_in-counts.ensures (sym c.check_record.ensures ∙ c.in_err-check_record.was) in
     let left = refused-words w rec refused (length a.out.now) in
     let p = err_from_is_err_and c.from_residual.result c.from_residual.ensures.1 in
@@ -31,25 +32,17 @@ returns-in_err-check_record c =
       out_after = sym (refused-buffer (bank_in w) rec a.out.now refused);
     }
 
-pub get-requires : goal.get-requires
-get-requires c =
+pub invariant_of-good : goal.invariant_of-good
+invariant_of-good c =
     let a = c.args in
-    let w : Words = words_in a.settings.now a.kept.now.states.now a.kept.now.marks.now in
+    let w : Words = kept_words a.settings.now a.kept.now in
     let accepted = sym c.check_record.ensures ∙ c.in_ok-check_record.was in
-    let r = ready_for w a.bytes.now c.counts_in-counts.ensures accepted (omega arith, a.kept.now.states_long, a.kept.now.marks_long) in
-    omega (arith, r.record-long)
-
-pub most_bytes-requires : goal.most_bytes-requires
-most_bytes-requires c =
-    let a = c.args in
-    let w : Words = words_in a.settings.now a.kept.now.states.now a.kept.now.marks.now in
-    let accepted = sym c.check_record.ensures ∙ c.in_ok-check_record.was in
-    (ready_for w a.bytes.now c.counts_in-counts.ensures accepted (omega arith, a.kept.now.states_long, a.kept.now.marks_long)).most
+    record { few = (ready_for w a.bytes.now c.counts_in-counts.ensures accepted (omega arith, a.kept.now.states_long, a.kept.now.marks_long)).most }
 
 pub scan_short-requires : goal.scan_short-requires
 scan_short-requires c =
     let a = c.args in
-    let w : Words = words_in a.settings.now a.kept.now.states.now a.kept.now.marks.now in
+    let w : Words = kept_words a.settings.now a.kept.now in
     let accepted = sym c.check_record.ensures ∙ c.in_ok-check_record.was in
     ready_for w a.bytes.now c.counts_in-counts.ensures accepted (omega arith, a.kept.now.states_long, a.kept.now.marks_long)
 
@@ -57,7 +50,7 @@ pub returns-then-out-most_bytes : goal.returns-then-out-most_bytes
 returns-then-out-most_bytes c =
     let a = c.args in
     let rec : List ℕ = a.bytes.now in
-    let w : Words = words_in a.settings.now a.kept.now.states.now a.kept.now.marks.now in
+    let w : Words = kept_words a.settings.now a.kept.now in
     let room = length a.out.now in
     let accepted = check-is w rec c.counts_in-counts.ensures (sym c.check_record.ensures ∙ c.in_ok-check_record.was) in
     let e = c.scan_short.ensures in
@@ -73,7 +66,7 @@ returns-then-out-most_bytes c =
 pub scan_alarms-used-requires : goal.scan_alarms-used-requires
 scan_alarms-used-requires c =
     let a = c.args in
-    let w : Words = words_in a.settings.now a.kept.now.states.now a.kept.now.marks.now in
+    let w : Words = kept_words a.settings.now a.kept.now in
     let accepted = sym c.check_record.ensures ∙ c.in_ok-check_record.was in
     record {
       ready = ready_for w a.bytes.now c.counts_in-counts.ensures accepted (omega arith, a.kept.now.states_long, a.kept.now.marks_long);
@@ -84,7 +77,7 @@ pub returns : goal.returns
 returns c =
     let a = c.args in
     let rec : List ℕ = a.bytes.now in
-    let w : Words = words_in a.settings.now a.kept.now.states.now a.kept.now.marks.now in
+    let w : Words = kept_words a.settings.now a.kept.now in
     let room = length a.out.now in
     let counts = c.counts_in-counts.ensures in
     let passed = sym c.check_record.ensures ∙ c.in_ok-check_record.was in

@@ -6,7 +6,7 @@ use native.Mathlib.Omega.{arith}
 use lib.ListN.{length, take, drop}
 use lib.Seq.{length-take-le}
 use Rattle.bank.specs.Lent.{Words}
-use Rattle.sweep.specs.Internal.Scan.{scan_words}
+use Rattle.bank.specs.Internal.Blocks.{kept_words}
 use Rattle.settings.specs.declared.counts.Counts.{Counts}
 use Rattle.sweep.specs.Internal.Sweep.{Ready, log_after}
 use Rattle.sweep.proofs.Room.{room_after}
@@ -18,8 +18,8 @@ use Rattle.scan.proofs.scan.scan_short.Goals as goal
 pub returns-then-out-used : goal.returns-then-out-used
 returns-then-out-used c =
     let a = c.args in
-    let rec : List ℕ = a.scan.now.bytes.now in
-    let w : Words = scan_words a.scan.now a.kept.now in
+    let rec : List ℕ = a.bytes.now in
+    let w : Words = kept_words a.settings.now a.kept.now in
     let used = c.scan_alarms-used.ensures.value in
     let room = length a.out.now in
     let h : room < length (log_after w rec) = omega (arith, c.if-out-used.true, used) in
@@ -49,8 +49,8 @@ copy_from_slice-requires c =
 pub returns : goal.returns
 returns c =
     let a = c.args in
-    let rec : List ℕ = a.scan.now.bytes.now in
-    let w : Words = scan_words a.scan.now a.kept.now in
+    let rec : List ℕ = a.bytes.now in
+    let w : Words = kept_words a.settings.now a.kept.now in
     let e = c.scan_alarms-used.ensures in
     let room = length a.out.now in
     let h : length (log_after w rec) ≤ room = omega (arith, c.if-out-used.false, e.value) in

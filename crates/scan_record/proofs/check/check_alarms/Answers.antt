@@ -12,12 +12,12 @@ returns-in_err-check_form c =
     let a = c.args in
     let found = rw sub-zero at (sym c.check_form.ensures ∙ c.in_err-check_form.was) in
     let p = err_from_is_err_and c.from_residual.result c.from_residual.ensures.1 in
-    rw (p.1, p.2, both-forms a.bytes.now a.counts, found)
+    rw (p.1, p.2, both-forms a.bytes.now a.good.counts, found)
 
 pub returns : goal.returns
 returns c =
     let a = c.args in
     let found = rw sub-zero at (sym c.check_form.ensures ∙ c.in_ok-check_form.was) in
-    let left : c.in_all.result - a.counts.digital ≡ a.counts.analog = omega arith in
-    let begin : c.analog_begin-begin.result ≡ 8 + 5 * a.counts.digital = omega arith in
-    rw (both-forms a.bytes.now a.counts, found, ← left, ← begin) c.check_form-2.ensures
+    let left : c.in_all.result - a.good.counts.digital ≡ a.good.counts.analog = omega arith in
+    let begin : c.analog_begin-begin.result ≡ 8 + 5 * a.good.counts.digital = omega arith in
+    rw (both-forms a.bytes.now a.good.counts, found, ← left, ← begin) c.check_form-2.ensures

@@ -1,19 +1,16 @@
--- `scan_record::check::record_length` meets its contract: each return takes the case that its test led to. Assumes nothing.
+-- `scan_record::check::record_length` meets its contract: each arm has the length of its counts. Assumes nothing.
 use borrow.Author.Rules.{rules}
-use Rattle.settings.proofs.Few.{few}
+use mathlib.Core.Path.{ap, ◌∙◌}
+use Rattle.scan_record.specs.Part.{record_size}
 use Rattle.scan_record.specs.Internal.Size.{length_of}
 use Rattle.scan_record.proofs.check.record_length.Goals as goal
 
-pub returns-then-not-are_good : goal.returns-then-not-are_good
+pub returns-in-Some : goal.returns-in-Some
 unfolding length_of
-returns-then-not-are_good c = (simp (← c.are_good.ensures, c.if-not-are_good.true), search rules)
+returns-in-Some c =
+    let good = c.in-Some.ensures in
+    (rw good.0 (c.length_of.ensures ∙ ap record_size good.1), search rules)
 
-pub length_of-requires : goal.length_of-requires
-length_of-requires c =
-    few c.args.counts c.are_good.ensures (c.if-not-are_good.false)
-
-pub returns : goal.returns
+pub returns-in-None : goal.returns-in-None
 unfolding length_of
-returns c =
-    let b = c.are_good in
-    (simp (← b.ensures, c.if-not-are_good.false) c.length_of.ensures, search rules)
+returns-in-None c = (simp c.in-None.ensures, search rules)

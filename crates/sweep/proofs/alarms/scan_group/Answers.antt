@@ -13,7 +13,7 @@ use Rattle.scan_record.specs.Part.{offset_of}
 use Rattle.scan_record.specs.Internal.Size.{entry_size}
 use Rattle.scan_record.proofs.Entries.{offset-next}
 use Rattle.bank.specs.Lent.{Words}
-use Rattle.sweep.specs.Internal.Scan.{scan_words}
+use Rattle.bank.specs.Internal.Blocks.{kept_words}
 use Rattle.sweep.specs.Internal.Sweep.{stepped_from, marked_from, log_from}
 use Rattle.sweep.proofs.Loops.{log-none, length-next, log-grows, log-here, states-next, marks-next, out-next}
 use Rattle.sweep.proofs.Loops.{part-next}
@@ -24,8 +24,8 @@ unfolding stepped_from marked_from
 loop-n-init c =
     let a = c.args in
     let f = a.group in
-    let rec : List ℕ = a.scan.now.bytes.now in
-    let w : Words = scan_words a.scan.now a.kept.now in
+    let rec : List ℕ = a.group.bytes.now in
+    let w : Words = kept_words a.scan.now.settings.now a.kept.now in
     record {
       here = c.requires.parts.0 ∙ ap (offset_of (counts_in a.scan.now.settings.now)) (sym (add-zero f.first));
       parts = sym (ap (λ (k : ℕ). f.at + k) (mul-zero (entry_size f.form)) ∙ add-zero f.at);
@@ -41,10 +41,10 @@ step_place-used-requires c =
     let l = c.loop-n in
     let a = c.args in
     let p = a.group.first in
-    let rec : List ℕ = a.scan.now.bytes.now in
-    let w : Words = scan_words a.scan.now a.kept.now in
+    let rec : List ℕ = a.group.bytes.now in
+    let w : Words = kept_words a.scan.now.settings.now a.kept.now in
     let f = c.requires.have_form (p + l.n) (omega arith) (omega arith) in
-    let e = ap length (log-here w rec p l.n f l.invariant.here a.scan.now.timed l.invariant.stepped) in
+    let e = ap length (log-here w rec p l.n f l.invariant.here c.requires.timed l.invariant.stepped) in
     let k : l.n + 1 + (a.group.count - (l.n + 1)) ≡ a.group.count = omega arith in
     let g = log-grows w rec p (l.n + 1) (a.group.count - (l.n + 1)) in
     let same = ap length l.invariant.logged ∙ length-sets a.out.now a.start (log_from w rec p l.n) in
@@ -59,11 +59,11 @@ loop-n-preserved c =
     let a = c.args in
     let p = a.group.first in
     let counts = counts_in a.scan.now.settings.now in
-    let rec : List ℕ = a.scan.now.bytes.now in
-    let w : Words = scan_words a.scan.now a.kept.now in
+    let rec : List ℕ = a.group.bytes.now in
+    let w : Words = kept_words a.scan.now.settings.now a.kept.now in
     let f = c.requires.have_form (p + l.n) (omega arith) (omega arith) in
     let size = c.part_size-at.ensures in
-    let t = a.scan.now.timed in
+    let t = c.requires.timed in
     let h = l.invariant.here in
     let s = l.invariant.stepped in
     let e = ap length (log-here w rec p l.n f h t s) in

@@ -8,15 +8,15 @@ use Rattle.layout.specs.Internal.Block.{counts_in}
 use Rattle.scan_record.specs.Part.{offset_of}
 use Rattle.scan_record.specs.Internal.Size.{entry_size}
 use Rattle.bank.specs.Internal.Blocks.{SameWords}
-use Rattle.sweep.specs.Internal.Scan.{scan_words}
+use Rattle.bank.specs.Internal.Blocks.{kept_words}
 use Rattle.sweep.specs.Internal.Sweep.{stepped_from, marked_from, log_from}
 use Rattle.sweep.proofs.alarms.scan_group.Given as goal
 
 abbrev pub invariant-loop-n : goal.invariant-loop-n
 invariant-loop-n l =
-    let w = scan_words l.scan l.initial.kept in
+    let w = kept_words l.scan.settings.now l.initial.kept in
     let g = l.group in
-    let rec = l.scan.bytes.now in
+    let rec = l.group.bytes.now in
     record {
       here : l.at ≡ offset_of (counts_in l.scan.settings.now) (g.first + l.n);
       parts : l.at ≡ g.at + entry_size g.form * l.n;
