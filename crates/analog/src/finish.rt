@@ -9,7 +9,7 @@ ghost use Rattle.wire.specs.Internal.Places.{condition_unit, six_range};
 use crate::inputs::Inputs;
 use crate::sides::sides_of;
 use crate::starts::begin_all;
-use condition::command::ack_word;
+use condition::command::Command;
 use condition::mode::is_enabled;
 use condition::row::lasted;
 use layout::half::{lower, pair, upper};
@@ -62,6 +62,7 @@ pub fn finish(state: &mut [u64; STATE_USED], inputs: Inputs) -> u32
     let Inputs {
         modes,
         met,
+        word,
         time,
         ..
     } = inputs;
@@ -69,7 +70,8 @@ pub fn finish(state: &mut [u64; STATE_USED], inputs: Inputs) -> u32
     let flags = lower(first);
     let enabled = is_enabled(modes);
     let ready = due_in(state, flags, met, inputs.duration, time);
-    let acks = ack_word(inputs.word, upper(first));
+    let previous = upper(first);
+    let acks = Command { word, previous }.ack_word();
     let six = decide(
         flags,
         enabled,
@@ -83,6 +85,6 @@ pub fn finish(state: &mut [u64; STATE_USED], inputs: Inputs) -> u32
         unreachable!()
     };
     begin_all(starts, flags, enabled, met, time);
-    state[FLAGS] = pair(flags_after(modes, met, six), inputs.word);
+    state[FLAGS] = pair(flags_after(modes, met, six), word);
     modes / 8 + CONDITIONS * six.events
 }

@@ -13,6 +13,7 @@ ghost use Rattle.analog.specs.Internal.Analog.{analog_step};
 
 use crate::finish::finish;
 use crate::inputs::Inputs;
+use condition::command::Command;
 use condition::mode::{is_enabled, modes};
 use layout::half::{lower, upper, upper_real};
 use layout::read::{duration_in, flags_in, limits_in, period_in};
@@ -53,7 +54,8 @@ pub fn analog_step(
 {
     let first = state[FLAGS];
     let flags = lower(first);
-    let m = modes(flags, word, upper(first));
+    let previous = upper(first);
+    let m = modes(flags, Command { word, previous });
     let enabled = is_enabled(m);
     let period = period_in(settings);
     let stored = SampleWords {

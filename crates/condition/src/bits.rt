@@ -1,7 +1,4 @@
 // The bits of an alarm's command word, by what a one counts there.
-ghost use Rattle.std.specs.Prelude.{◌≡◌, ◌/◌, ◌%◌, ◌<◌, not, ◌&&◌, eqb};
-
-use wire::bits::is_set;
 
 // ProgAck, or ProgAckAll.
 pub const PROG_ACK: u32 = 0x1;
@@ -37,11 +34,3 @@ pub const PROG_ACK_HH: u32 = 0x2000;
 pub const OPER_ACK_HH: u32 = 0x80000;
 
 pub const IN_FAULT: u32 = 0x2000000;
-
-// Whether the bit is set that was clear in the word before.
-pub fn rises(word: u32, previous: u32, unit: u32) -> bool
-    requires { 0 < unit }
-    ensures { result ≡ eqb (word / unit % 2) 1 && not (eqb (previous / unit % 2) 1) }
-{
-    is_set(word, unit) & !is_set(previous, unit)
-}

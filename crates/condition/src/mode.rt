@@ -7,17 +7,19 @@ ghost use Rattle.condition.specs.Internal.Mode.{mode_bits};
 
 use crate::bits::{
     IN_FAULT, OPER_DISABLE, OPER_ENABLE, OPER_SUPPRESS, OPER_UNSUPPRESS, PROG_DISABLE, PROG_ENABLE,
-    PROG_SUPPRESS, PROG_UNSUPPRESS, RESET_COUNTS, rises,
+    PROG_SUPPRESS, PROG_UNSUPPRESS, RESET_COUNTS,
 };
+use crate::command::Command;
 use wire::bits::{is_set, word_of};
 use wire::places::{DISABLED, SUPPRESSED};
 
 // One scan of an alarm's modes. Of `digit`, bit 0 is disabled and bit 1 suppressed. The result has these anew, InFaulted in
 // bit 2, and in bits 3 to 7 disabled, enabled, suppressed, unsuppressed and count reset as events; four more are free. Most scans
 // command nothing, and leave the modes as they are.
-pub fn modes(digit: u32, word: u32, previous: u32) -> u32
-    ensures { (result ≡ word_of (mode_bits (bit digit disabled_flag) (bit digit suppressed_flag) word previous)) × (result < 4096) }
+pub fn modes(digit: u32, command: Command) -> u32
+    ensures { (result ≡ word_of (mode_bits (bit digit disabled_flag) (bit digit suppressed_flag) command.word command.previous)) × (result < 4096) }
 {
+    let word = command.word;
     if word == 0 {
         return digit % 4;
     }
@@ -37,7 +39,7 @@ pub fn modes(digit: u32, word: u32, previous: u32) -> u32
         !disabled_after & disabled,
         suppressed_after & !suppressed,
         !suppressed_after & suppressed,
-        rises(word, previous, RESET_COUNTS),
+        command.rises(RESET_COUNTS),
         false,
         false,
         false,

@@ -7,7 +7,7 @@ ghost use Rattle.state.specs.Internal.Starts.{keep_start};
 ghost use Rattle.digital.specs.Internal.Digital.{digital_step, rest_flags};
 ghost use Rattle.wire.specs.Internal.Places.{condition_unit};
 
-use condition::command::{acks_all, resets_one};
+use condition::command::Command;
 use condition::mode::{is_enabled, modes};
 use condition::outcome::condition;
 use condition::row::lasted;
@@ -69,12 +69,13 @@ pub fn digital_step(
     let begun = state[STARTS];
     let flags = lower(first);
     let previous = upper(first);
-    let m = modes(flags, word, previous);
+    let command = Command { word, previous };
+    let m = modes(flags, command);
     let enabled = is_enabled(m);
-    let frees = !is_set(set, LATCHED) | resets_one(word, previous);
+    let frees = !is_set(set, LATCHED) | command.resets();
     let on = is_set(flags, HH_ROW);
     let ready = lasted(choose(on, begun, time), duration_in(settings), time);
-    let ack = acks_all(word, previous);
+    let ack = command.acks_all();
     let c = condition(
         flags / HH,
         enabled,

@@ -25,7 +25,7 @@ returns c =
     let on : Bool = enabled_in x.modes in
     let enabled = c.is_enabled-enabled.ensures in
     let low = c.lower-flags.ensures in
-    let up = c.upper.ensures in
+    let up = c.upper-previous.ensures in
     let acks =
     c.ack_word-acks.ensures.0 ∙ ap (λ (p : ℕ). word_of (spread (ack_bits x.word p))) up in
     let six : c.decide-six.result ≡ decided_by ws x =

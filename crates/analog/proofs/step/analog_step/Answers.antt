@@ -38,7 +38,7 @@ returns-then-word-first c =
     let limits = c.limits_in-limits.ensures in
     let sample = c.resample-sample.ensures in
     let seen =
-    sensed alarm ws 0 x g.word g.time low c.upper.ensures c.modes-m.ensures.0 c.is_enabled-enabled.ensures c.period_in-period.ensures
+    sensed alarm ws 0 x g.word g.time low c.upper-previous.ensures c.modes-m.ensures.0 c.is_enabled-enabled.ensures c.period_in-period.ensures
     c.value_of.ensures sample.rate (λ i. sets ws 1 (sample.pair i ∷ sample.time i ∷ [])) c.upper_real.ensures set limits c.met_word-met.ensures.0
     in
     let rests = and-true _ _ c.if-word-first.true in
@@ -60,7 +60,7 @@ returns c =
     let limits = c.limits_in-limits.ensures in
     let sample = c.resample-sample.ensures in
     let seen =
-    sensed alarm ws 0 x g.word g.time low c.upper.ensures c.modes-m.ensures.0 c.is_enabled-enabled.ensures c.period_in-period.ensures
+    sensed alarm ws 0 x g.word g.time low c.upper-previous.ensures c.modes-m.ensures.0 c.is_enabled-enabled.ensures c.period_in-period.ensures
     c.value_of.ensures sample.rate (λ i. sets ws 1 (sample.pair i ∷ sample.time i ∷ [])) c.upper_real.ensures set limits c.met_word-met.ensures.0
     in
     let f = ap (λ (l : List ℕ). get_or l 0 0) seen.sampled ∙ (beside-sample ws 0 _ _).0 in

@@ -21,7 +21,7 @@ idle false false previous = refl
 pub returns-then-word-eq0 : goal.returns-then-word-eq0
 returns-then-word-eq0 c =
     let a = c.args in
-    (rw c.if-word-eq0.true (word_two a.digit ∙ idle (bit a.digit 0) (bit a.digit 1) a.previous), omega arith)
+    (rw c.if-word-eq0.true (word_two a.digit ∙ idle (bit a.digit 0) (bit a.digit 1) a.command.previous), omega arith)
 
 pub returns : goal.returns
 unfolding mode_bits

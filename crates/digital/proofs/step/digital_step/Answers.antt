@@ -61,7 +61,7 @@ returns c =
     let required = c.is_set-3.ensures ∙ ap (λ (v : ℕ). bit v 1) set in
     let on = c.is_set-on.ensures ∙ ap (λ (f : ℕ). bit f (condition_bit 0 2)) low in
     let met' = c.is_bit-met.ensures ∙ ap (λ (b : Bool). is_bit b x) watched in
-    let reset = c.resets_one.ensures ∙ ap (resets g.word) up in
+    let reset = c.resets.ensures ∙ ap (resets g.word) up in
     let start =
     c.choose.ensures
     ∙ ap (λ (b : Bool). cond b s.hh g.time) on in
