@@ -31,7 +31,8 @@ pub fn record_length(counts: Counts) -> usize
 }
 
 // Checks the alarms of one form, at the places from `first` to before `end`, whose parts begin at `begin`, in number order, and answers
-// the first refusal. Each call names its form, so that no turn of the loop has to ask for it.
+// the first refusal. Each call names its form, so that no turn of the loop has to ask for it. That the loop ends by `break` is a rule of the
+// project (document 01, the right form for each place).
 fn check_form(
     bytes: &[u8],
     form: Form,
@@ -42,12 +43,18 @@ fn check_form(
     requires { (first ≤ end) × (begin + entry_size form * (end - first) ≤ length bytes.now) }
     ensures { result ≡ check_form form bytes.now (end - first) first begin }
 {
+    let mut reply = Ok(());
     let mut at = begin;
     for place in first..end {
-        let entry = entry_at(bytes, at, form, place + 1)?;
-        at = entry.next;
+        match entry_at(bytes, at, form, place + 1) {
+            Ok(entry) => at = entry.next,
+            Err(refusal) => {
+                reply = Err(refusal);
+                break;
+            }
+        }
     }
-    Ok(())
+    reply
 }
 
 // Checks each alarm in number order, the digital ones first, and answers the first refusal, of a record that has the
