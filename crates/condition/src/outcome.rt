@@ -12,7 +12,8 @@ pub const ALARM: u32 = 1;
 pub const UNACKED: u32 = 2;
 
 // One scan of one condition. Of `digit`, bit 0 is in alarm and bit 1 unacknowledged. The result has these two anew, bit 2
-// for the row of scans that met it, and bits 3 to 5 for acknowledged, returned and activated.
+// for the row of scans that met it, and bits 3 to 5 for acknowledged, returned and activated. A struct of the parameters would be made for
+// one call alone.
 pub fn condition(
     digit: u32,
     enabled: bool,

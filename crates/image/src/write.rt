@@ -50,6 +50,7 @@ fn put_digital(out: &mut [u8], at: usize, flags: u8, severity: u32, duration: u3
     put_words(out, at + FLAGS, &[severity, duration]);
 }
 
+// An alarm's parts, as the match on its kind has them.
 fn put_analog(
     out: &mut [u8],
     at: usize,

@@ -6,7 +6,8 @@ use replay::replay::Tally;
 use settings::counts::Counts;
 use settings::refusals::Refusal;
 
-// The codes, and how many words each call fills, are numbers: the C interface has them (include/meifgur.h).
+// The codes, and how many words each call fills, are numbers: the C interface has them (include/meifgur.h). Each call looks at the length of
+// its answer itself, since it returns there.
 
 // The answer has fewer words than the call fills.
 pub const SHORT_ANSWER: u32 = 40;

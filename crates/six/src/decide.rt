@@ -12,7 +12,7 @@ pub struct Cells {
     pub events: u32,
 }
 
-// Decides the six conditions from the state before the scan.
+// Decides the six conditions from the state before the scan. A struct of the parameters would be made for one call alone.
 pub fn decide(
     flags: u32,
     enabled: bool,

@@ -26,6 +26,7 @@ fn step_form(scan: &Scan<'_>, part: Part<'_>, states: &mut [u64; STATES_WORDS]) 
     ensures states_after { states.new ≡ part_states scan.now part.entry states.old }
 {
     let settings = part.place.settings_in(scan.settings);
+    // cut out here, and of the marks below: a function that hands out a part of its parameter does not prove
     let (_, behind) = states.split_at_mut(part.place.state_at());
     let Some(state) = behind.first_chunk_mut() else {
         unreachable!()

@@ -23,6 +23,7 @@ pub fn from_pattern(bits: u32) -> f32
     }
 }
 
+// That x is a NaN is asked by comparison, which its law is about.
 pub fn to_pattern(x: f32) -> u32
     ensures { result ≡ to_bits binary32 x }
 {
