@@ -23,7 +23,7 @@ use Rattle.layout.specs.Internal.Block.{placed, settings_in, settings_words, sta
 use Rattle.layout.proofs.Laws.{length-placed, placed_below}
 use Rattle.layout.proofs.Back.{Kept, digital-kept, Reals, analog-kept, block-is, settings-back}
 use Rattle.reader.specs.Read.{settings_of}
-use Rattle.reader.proofs.Filled.{settled}
+use Rattle.reader.proofs.Settled.{settled}
 use Rattle.state.specs.Internal.Held.{fresh_state}
 use Rattle.state.specs.Internal.State.{State, state_in}
 use Rattle.bank.specs.Internal.Bank.{fresh_bank, load_of}

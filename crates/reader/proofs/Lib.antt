@@ -1,4 +1,4 @@
 pub mod Sections
-pub mod Filled
+pub mod Settled
 pub mod Sound
 mod Examples

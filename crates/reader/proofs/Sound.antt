@@ -12,7 +12,7 @@ use Rattle.settings.specs.declared.types.Form.TheVariants.{Digital, Analog}
 use Rattle.settings_record.proofs.Sound.{sound}
 use Rattle.reader.specs.Read.{settings_of}
 use Rattle.reader.specs.Internal.Sound.{SoundSettings}
-use Rattle.reader.proofs.Filled.{settled}
+use Rattle.reader.proofs.Settled.{settled}
 
 pub sound-settings : (image : List ℕ) → SoundSettings (settings_of image)
 sound-settings image =
