@@ -1,5 +1,7 @@
 // The rules that an analog alarm's numbers obey: their ranges, and the order of its levels.
-ghost use Rattle.std.specs.Prelude.{◌≡◌, not, ◌&&◌, ◌||◌};
+ghost use Rattle.std.specs.Prelude.{◌≡◌, true};
+ghost use Rattle.std.specs.Bool.{then_some};
+ghost use Rattle.std.specs.Option.{option_map_or, option_zip};
 ghost use Rattle.std.specs.Float.Ieee.{lt};
 ghost use Rattle.settings.specs.Condition.{on, HH, H, L, LL};
 ghost use Rattle.settings.specs.Numbers.{reals, real_limit};
@@ -31,54 +33,39 @@ pub fn numbers_in_range(g: Limits, period: u32, duration: u32) -> bool
     limits_in_range(g) & (period <= LONGEST_PERIOD) & (duration <= LONGEST_DURATION)
 }
 
-// A level: whether the flags enable it, and its limit.
-#[derive(Clone, Copy)]
-struct Level {
-    enabled: bool,
-    limit: f32,
-}
-
-// The four levels of an analog alarm.
+// The limits of an analog alarm's levels; a level that the flags do not enable has none.
 #[derive(Clone, Copy)]
 struct Levels {
-    hh: Level,
-    h: Level,
-    l: Level,
-    ll: Level,
+    hh: Option<f32>,
+    h: Option<f32>,
+    l: Option<f32>,
+    ll: Option<f32>,
 }
 
 // The levels by the flags' four lowest bits.
 fn levels_of(flags: u8, g: Limits) -> Levels
-    ensures enabled { (result.hh.enabled ≡ on flags HH) × (result.h.enabled ≡ on flags H) ×
-        (result.l.enabled ≡ on flags L) × (result.ll.enabled ≡ on flags LL) }
-    ensures limits { (result.hh.limit ≡ g.hh) × (result.h.limit ≡ g.h) × (result.l.limit ≡ g.l) × (result.ll.limit ≡ g.ll) }
+    ensures hh { result.hh ≡ then_some (on flags HH) g.hh }
+    ensures h { result.h ≡ then_some (on flags H) g.h }
+    ensures l { result.l ≡ then_some (on flags L) g.l }
+    ensures ll { result.ll ≡ then_some (on flags LL) g.ll }
 {
     let on = u32::from(flags);
     Levels {
-        hh: Level {
-            enabled: is_set(on, HH_ENABLED),
-            limit: g.hh,
-        },
-        h: Level {
-            enabled: is_set(on, H_ENABLED),
-            limit: g.h,
-        },
-        l: Level {
-            enabled: is_set(on, L_ENABLED),
-            limit: g.l,
-        },
-        ll: Level {
-            enabled: is_set(on, LL_ENABLED),
-            limit: g.ll,
-        },
+        hh: is_set(on, HH_ENABLED).then_some(g.hh),
+        h: is_set(on, H_ENABLED).then_some(g.h),
+        l: is_set(on, L_ENABLED).then_some(g.l),
+        ll: is_set(on, LL_ENABLED).then_some(g.ll),
     }
 }
 
 // Whether a lower and an upper level stand in order, which counts only where both are enabled.
-fn in_order(lower: Level, upper: Level) -> bool
-    ensures { result ≡ not (lower.enabled && upper.enabled) || lt lower.limit upper.limit }
+fn in_order(lower: Option<f32>, upper: Option<f32>) -> bool
+    ensures { result ≡ option_map_or (λ p. lt p.0 p.1) (option_zip lower upper) true }
 {
-    !(lower.enabled & upper.enabled) | (lower.limit < upper.limit)
+    match (lower, upper) {
+        (Some(lower), Some(upper)) => lower < upper,
+        _ => true,
+    }
 }
 
 // Each pair by itself: six tests are plainer than a walk over pairs.
@@ -98,10 +85,10 @@ fn sides_apart(flags: u8, g: Limits) -> bool
     ensures { result ≡ banded reals flags (real_limit g) g.deadband }
 {
     let Levels { hh, h, l, ll } = levels_of(flags, g);
-    let low = if l.enabled { l.limit } else { ll.limit };
-    let high = if h.enabled { h.limit } else { hh.limit };
-    let apart = (low < high - g.deadband) & (low + g.deadband < high);
-    !((hh.enabled | h.enabled) & (l.enabled | ll.enabled)) | apart
+    let Some((high, low)) = h.or(hh).zip(l.or(ll)) else {
+        return true;
+    };
+    (low < high - g.deadband) & (low + g.deadband < high)
 }
 
 // The rules on the order of levels and on Deadband, refusal 5.
