@@ -1,10 +1,12 @@
 -- The lines of what is left, when one more is taken, and at the end.
-use mathlib.Core.Path.{◌≡◌, refl, sym, ap}
+use mathlib.Core.Path.{◌≡◌, refl, sym, ap, ◌∙◌}
 use mathlib.Core.Logic.{◌⊎◌, inl, inr}
 use Prim.Native.Nat.{ℕ, ◌+◌, ◌-◌, ◌<◌, ◌≤◌, suc}
 use native.Mathlib.Omega.{arith}
 use mathlib.Core.List.{List, [], ◌∷◌, ◌++◌}
-use Rattle.std.specs.Prelude.{take, flat_map, length}
+use lib.ListN.{get_or, take}
+use Rattle.std.specs.Prelude.{flat_map, length}
+use Rattle.std.proofs.lemmas.List.{flat_map_more, take_more}
 use Rattle.std.proofs.lemmas.Bool.{lt-ltb, le-ltb}
 use Rattle.report.specs.declared.status.Status.{Status}
 use Rattle.std.specs.Prelude.{Ok}
@@ -20,12 +22,10 @@ use Rattle.bank_text.specs.Internal.Owned.{said_of}
 use Rattle.bank_text.specs.Internal.Show.{first_number, end_of_numbers}
 use Rattle.meifgur.specs.Internal.Show.{condition_line, lines_from, alarm_lines, said_lines}
 
--- the lines of the events of which so many are written
-pub lines-next : {X : Type 0} (line : X → List ℕ) (x : X) (left rest : List X) (m n : ℕ) →
-    (left ≡ x ∷ rest) × (m + 1 ≡ n) → flat_map line (take n left) ≡ line x ++ flat_map line (take m rest)
-lines-next line x left rest m n step =
-    let more : n ≡ suc m = omega (arith, step.1) in
-    rw (step.0, more) refl
+-- the lines of the events up to an index, and of one more
+pub events-next : {X : Type 0} (line : X → List ℕ) (xs : List X) (i : ℕ) (d : X) → i < length xs →
+    flat_map line (take i xs) ++ line (get_or xs i d) ≡ flat_map line (take (i + 1) xs)
+events-next line xs i d below = flat_map_more line [] (take i xs) (get_or xs i d) ∙ sym (ap (flat_map line) (take_more xs i d below))
 
 -- the lines of the conditions from a number on
 pub conditions-next : (alarm condition first next end after : ℕ) (status : Status) (left rest : List Status) →

@@ -2,6 +2,7 @@
 use crate::show::{write_conditions, write_events};
 use bank_text::owned::Bank;
 use bank_text::show::Refused;
+use event::write::EVENT_SIZE;
 use scan::scan::EVENTS_ENOUGH;
 use scan_record::check::record_length;
 use std::alloc::Global;
@@ -15,7 +16,7 @@ fn answer_record<W: Write>(bank: &mut Bank, record: &[u8], output: &mut W) -> Re
     // A rule of the project: an array, lent to every scan.
     let mut events = [0; EVENTS_ENOUGH];
     match bank.scan(record, &mut events) {
-        Ok(number) => write_events(output, &events, number)?,
+        Ok(number) => write_events(output, &events[..number * EVENT_SIZE])?,
         Err(refusal) => writeln!(output, "{}", Refused(refusal))?,
     }
     Ok(())

@@ -31,12 +31,12 @@ impl fmt::Display for Event<'_> {
     }
 }
 
-// Writes the lines of the first `number` event records of a buffer.
-pub fn write_events<W: Write>(output: &mut W, events: &[u8], number: usize) -> io::Result<()>
-    ensures { OnOk result (Appends (W.contents output.old) (W.contents output.new) (event_lines number events.now)) }
+// Writes the lines of event records, one after another. Bytes after the last whole record have no line.
+pub fn write_events<W: Write>(output: &mut W, events: &[u8]) -> io::Result<()>
+    ensures { OnOk result (Appends (W.contents output.old) (W.contents output.new) (event_lines events.now)) }
 {
     let (records, _) = events.as_chunks::<EVENT_SIZE>();
-    for record in records.iter().take(number) {
+    for record in records {
         writeln!(output, "{}", Event(record))?;
     }
     Ok(())

@@ -1,5 +1,5 @@
 -- The lines of events, and of conditions at the end, as text: 32 stands between two numbers, and 10 at the end.
-use Rattle.std.specs.Prelude.{ℕ, ◌+◌, ◌-◌, ◌/◌, List, [], ◌∷◌, ◌++◌, length, take, flat_map, slice_index, cond, not, ltb, Result, Ok, Err, codes}
+use Rattle.std.specs.Prelude.{ℕ, ◌+◌, ◌-◌, ◌/◌, List, [], ◌∷◌, ◌++◌, length, flat_map, slice_index, cond, not, ltb, Result, Ok, Err, codes}
 use Rattle.std.specs.Int.{from_bool}
 use Rattle.std.specs.List.{range_with_len}
 use Rattle.std.specs.Simd.{first_chunks}
@@ -30,9 +30,9 @@ event_text event =
 abbrev pub event_line : List ℕ → List ℕ
 event_line event = event_text event ++ 10 ∷ []
 
--- the lines of the first so many records of a buffer
-abbrev pub event_lines : ℕ → List ℕ → List ℕ
-event_lines count buffer = flat_map event_line (take count (first_chunks 16 (length buffer / 16) buffer))
+-- the lines of all whole records of a list of bytes
+abbrev pub event_lines : List ℕ → List ℕ
+event_lines events = flat_map event_line (first_chunks 16 (length events / 16) events)
 
 -- what is said of a condition at the end: alarm, condition, in alarm, unacknowledged, count
 abbrev pub condition_text : ℕ → ℕ → Status → List ℕ
