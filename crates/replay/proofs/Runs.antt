@@ -191,6 +191,9 @@ module _ {w : Words} {bytes out : List ℕ} {size : ℕ} {p : Progress} {i : ℕ
   pub same_length : length p.buffer ≡ length out
   same_length = ap (λ (q : Progress). length q.buffer) g.so_far ∙ (kept w bytes out i).same
 
+  pub still_alike : Alike p.words w
+  still_alike = rw g.so_far (kept w bytes out i).alike
+
   pub few-refused : p.tally.refused ≤ i
   few-refused = rw g.so_far (kept w bytes out i).few
 

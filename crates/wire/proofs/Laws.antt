@@ -1,15 +1,16 @@
 -- Laws of little-endian numbers and of consecutive writes, each over the width. Assumes nothing.
 use mathlib.Core.Path.{◌≡◌, refl, sym, ap, ap₂, ◌∙◌}
-use mathlib.Core.List.{List, [], ◌∷◌, ◌++◌}
+use mathlib.Core.List.{List, [], ◌∷◌, ◌++◌, append_assoc}
 use mathlib.Core.Logic.{◌⊎◌, inl, inr}
 use Prim.Native.Nat.{ℕ, zero, suc, ◌+◌, ◌-◌, ◌*◌, ◌/◌, ◌%◌, ◌^◌, ◌≤◌, ◌<◌}
 use native.Mathlib.Nat.{eq-or-lt_of_le, le_of_suc-le-suc, add-zero, add-suc, mul-zero, add_assoc, zero-add, pow-zero, pow-suc, pow-succ', div-one}
-use native.Mathlib.Nat.{div-div-eq-div-mul, one-mul, mul_assoc, mul-add, mul_comm, suc-add, lt_of_not-le, not-le_of_lt}
+use native.Mathlib.Nat.{div-div-eq-div-mul, mul-pos, one-mul, mul_assoc, mul-add, mul_comm, suc-add, lt_of_not-le, not-le_of_lt}
 use native.Mathlib.Numerals.{add-one}
 use native.Mathlib.Omega.{arith}
 use mathlib.Core.Bool.{Bool, true, false, ◌&&◌, false≢true}
 use borrow.Author.Tests.{le-leb, lt-leb, leb-true, leb-false}
 use lib.Dec.{T, leb, ltb, ltb→lt}
+use lib.Arith.{mod-mul}
 use lib.Pow.{are_bytes}
 use lib.Ieee.Fits.{and_i, and_l, and_r}
 use lib.ListN.{length, get_or, take, drop, set, length-append, length-take, length-drop}
@@ -55,6 +56,24 @@ pub bytes-add : (n m v : ℕ) → bytes (n + m) v ≡ bytes n v ++ bytes m (v / 
 unfolding bytes
 bytes-add zero m v = simp (zero-add, pow-zero, div-one)
 bytes-add (suc n) m v = simp (suc-add, pow-succ', ← div-div-eq-div-mul, bytes-add n m (v / 256))
+
+power_pos : (n : ℕ) → 0 < 256 ^ n
+power_pos zero = rw (pow-zero 256) (omega arith)
+power_pos (suc n) = rw (pow-suc 256 n) (mul-pos (power_pos n) (omega arith))
+
+-- bytes above the n-th don't matter
+pub bytes-mod : (n v : ℕ) → bytes n (v % 256 ^ n) ≡ bytes n v
+unfolding bytes
+bytes-mod zero v = refl
+bytes-mod (suc n) v =
+    let e : v % (256 ^ n * 256) ≡ (v / 256 % 256 ^ n) * 256 + v % 256 = mod-mul v (power_pos n) (omega arith) in
+    let m : v % (256 ^ n * 256) % 256 ≡ v % 256 = omega arith in
+    let d : v % (256 ^ n * 256) / 256 ≡ v / 256 % 256 ^ n = omega arith in
+    simp (pow-suc, m, d, bytes-mod n (v / 256))
+
+-- a number written in two parts is that number written whole
+pub bytes_halves : (n m v : ℕ) → bytes (n + m) v ≡ bytes n (v % 256 ^ n) ++ bytes m (v / 256 ^ n)
+bytes_halves n m v = bytes-add n m v ∙ ap (λ (l : List ℕ). l ++ bytes m (v / 256 ^ n)) (sym (bytes-mod n v))
 
 take-bytes : (n : ℕ) (xs : List ℕ) → T (are_bytes xs) → T (are_bytes (take n xs))
 take-bytes zero xs h = tt
@@ -105,6 +124,11 @@ word-then l i v vs {l₁} {m} {j} e f g =
     ∙ ap (λ (k : ℕ). sets (sets l i (bytes 4 v)) k (words vs)) (f ∙ ap (λ (n : ℕ). i + n) (sym (length-bytes 4 v)))
     ∙ sets-append l i (bytes 4 v) (words vs)
 
+pub words_append : (xs ys : List ℕ) → words (xs ++ ys) ≡ words xs ++ words ys
+unfolding words
+words_append [] ys = refl
+words_append (x ∷ xs) ys = simp (words_append xs ys, append_assoc)
+
 -- the k words from an offset on
 unfoldable pub words_at : List ℕ → ℕ → ℕ → List ℕ
 words_at s at zero = []
@@ -138,6 +162,12 @@ and-true false b e = absurd (false≢true e)
 -- two tests of an order hold
 pub most-true : (a b m n : ℕ) {r : Bool} → r ≡ leb a m && leb b n → r ≡ true → (a ≤ m) × (b ≤ n)
 most-true a b m n e f = let both = and-true (leb a m) (leb b n) (sym e ∙ f) in (leb-true a m both.0, leb-true b n both.1)
+
+-- an element that a list has, whatever stands for one that it lacks
+pub get_or-within : {A : Type 0} (xs : List A) (n : ℕ) (d e : A) → n < length xs → get_or xs n d ≡ get_or xs n e
+get_or-within [] n d e h = absurd (omega arith)
+get_or-within (x ∷ xs) zero d e h = refl
+get_or-within (x ∷ xs) (suc n) d e h = get_or-within xs n d e (omega arith)
 
 -- a place below n + 1 is n or below it
 pub below : (P : ℕ → Type 0) {n p : ℕ} → p < suc n → P n → (p < n → P p) → P p
