@@ -1,4 +1,10 @@
 // A drive: scan records run on a bank.
+ghost use Rattle.std.specs.Prelude.{OnOk, IfOk};
+ghost use Rattle.std.specs.Io.KnownBytes.{Appends};
+ghost use Rattle.scan.specs.Internal.Words.{answer_of};
+ghost use Rattle.bank_text.specs.Internal.Owned.{words_of};
+ghost use Rattle.meifgur.specs.Internal.Show.{event_lines, scan_events};
+
 use crate::show::{write_conditions, write_events};
 use bank_text::owned::Bank;
 use bank_text::show::Refused;
@@ -11,11 +17,15 @@ use text::console::Console;
 use text::failure::Failure;
 use text::pieces::Pieces;
 
-// Runs a record, and writes its events or its refusal.
-fn answer_record<W: Write>(bank: &mut Bank, record: &[u8], output: &mut W) -> Result<(), Failure> {
+// Runs a scan record, and writes its events or its refusal.
+fn answer_record<W: Write>(bank: &mut Bank, bytes: &[u8], output: &mut W) -> Result<(), Failure>
+    ensures { IfOk (answer_of (words_of bank.old) bytes.now 3840)
+        (λ number. OnOk result (Appends (W.contents output.old) (W.contents output.new)
+        (event_lines (scan_events (words_of bank.old) bytes.now number)))) }
+{
     // A rule of the project: an array, lent to every scan.
     let mut events = [0; EVENTS_ENOUGH];
-    match bank.scan(record, &mut events) {
+    match bank.scan(bytes, &mut events) {
         Ok(number) => write_events(output, &events[..number * EVENT_SIZE])?,
         Err(refusal) => writeln!(output, "{}", Refused(refusal))?,
     }

@@ -1,5 +1,5 @@
 -- The lines of events, and of conditions at the end, as text: 32 stands between two numbers, and 10 at the end.
-use Rattle.std.specs.Prelude.{ℕ, ◌+◌, ◌-◌, ◌/◌, List, [], ◌∷◌, ◌++◌, length, flat_map, slice_index, cond, not, ltb, Result, Ok, Err, codes}
+use Rattle.std.specs.Prelude.{ℕ, ◌+◌, ◌*◌, ◌-◌, ◌/◌, List, [], ◌∷◌, ◌++◌, length, take, replicate, flat_map, slice_index, cond, not, ltb, Result, Ok, Err, codes}
 use Rattle.std.specs.Int.{from_bool}
 use Rattle.std.specs.List.{range_with_len}
 use Rattle.std.specs.Simd.{first_chunks}
@@ -11,6 +11,7 @@ use Rattle.settings.specs.declared.refusals.Refusal.{Refusal}
 use Rattle.layout.specs.Internal.Block.{counts_in}
 use Rattle.bank.specs.Lent.{Words}
 use Rattle.report.specs.Internal.Report.{report_in}
+use Rattle.scan.specs.Internal.Words.{buffer_of}
 use Rattle.report.specs.declared.report.AlarmReport.{AlarmReport}
 use Rattle.report.specs.declared.status.Status.{Status}
 use Rattle.bank_text.specs.Internal.Owned.{alarms_of, said_of}
@@ -33,6 +34,10 @@ event_line event = event_text event ++ 10 ∷ []
 -- the lines of all whole records of a list of bytes
 abbrev pub event_lines : List ℕ → List ℕ
 event_lines events = flat_map event_line (first_chunks 16 (length events / 16) events)
+
+-- the bytes of so many events of a scan, in a buffer with room for the most
+abbrev pub scan_events : Words → List ℕ → ℕ → List ℕ
+scan_events words bytes number = take (number * 16) (buffer_of words bytes (replicate 3840 0))
 
 -- what is said of a condition at the end: alarm, condition, in alarm, unacknowledged, count
 abbrev pub condition_text : ℕ → ℕ → Status → List ℕ
