@@ -18,7 +18,7 @@ use six::decide::{Cells, decide};
 use state::offsets::{FLAGS, HIGH, LOW};
 use wire::bits::{is_set, only_in, spread_of, word_of};
 use wire::choice::choose;
-use wire::places::{CONDITIONS, H, HH, HIGH_RUN, L, LL, LOW_RUN, SIX};
+use wire::places::{CONDITIONS, H, HH, HIGH_RUN, L, LL, LOW_RUN, SIX, THREE_BITS};
 
 // The conditions that would be due if they are met.
 fn ready_in(flags: u32, high: u64, low: u64, duration: u32, time: u64) -> u32
@@ -48,8 +48,8 @@ fn flags_after(modes: u32, met: u32, six: Cells) -> u32
 {
     let enabled = is_enabled(modes);
     let sides = sides_of(met);
-    modes % 8
-        + 8 * word_of([enabled, enabled & sides.high, enabled & sides.low])
+    modes % THREE_BITS
+        + THREE_BITS * word_of([enabled, enabled & sides.high, enabled & sides.low])
         + CONDITIONS * six.kept
 }
 
@@ -86,5 +86,5 @@ pub fn finish(state: &mut [u64; STATE_USED], inputs: Inputs) -> u32
     };
     begin_all(starts, flags, enabled, met, time);
     state[FLAGS] = pair(flags_after(modes, met, six), word);
-    modes / 8 + CONDITIONS * six.events
+    modes / THREE_BITS + CONDITIONS * six.events
 }

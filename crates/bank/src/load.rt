@@ -13,7 +13,8 @@ use reader::read::read;
 use settings::refusals::Refusal;
 use settings::types::no_alarms;
 
-// Writes the three blocks; of a refused image, a bank without alarms.
+// Writes the three blocks; of a refused image, a bank without alarms. A struct of three blocks that are written would be made for this call
+// alone.
 fn load_blocks(
     image: &[u8],
     settings: &mut [u64; SETTINGS_WORDS],
@@ -33,7 +34,7 @@ fn load_blocks(
 }
 
 // Writes the bank of a settings image, before its first scan; of a refused image, a bank without alarms. The three blocks come one by one,
-// as the exported calls are lent them.
+// as the exported calls are lent them, and their lengths are tested here: no function can hand out arrays of several `&mut` parameters.
 pub fn load(
     image: &[u8],
     settings: &mut [u64],

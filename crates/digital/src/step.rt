@@ -19,7 +19,9 @@ use settings::types::Reading;
 use state::offsets::{FLAGS, STARTS};
 use wire::bits::is_set;
 use wire::choice::choose;
-use wire::places::{ACK_REQUIRED, CONDITION, CONDITIONS, HH, HH_ROW, HH_UNACKED, LATCHED};
+use wire::places::{
+    ACK_REQUIRED, CONDITION, CONDITIONS, HH, HH_ROW, HH_UNACKED, LATCHED, THREE_BITS,
+};
 
 // Stores flags and command word, and the start of the row where it begins.
 fn keep(state: &mut [u64; STATE_USED], first: u64, begins: bool, time: u64)
@@ -85,7 +87,7 @@ pub fn digital_step(
         ack,
         is_set(set, ACK_REQUIRED),
     );
-    let kept = pair(m % 8 + CONDITIONS * (c % 8), word);
+    let kept = pair(m % THREE_BITS + CONDITIONS * (c % THREE_BITS), word);
     keep(state, kept, (enabled & met) & !on, time);
-    m / 8 + CONDITIONS * (c / 8)
+    m / THREE_BITS + CONDITIONS * (c / THREE_BITS)
 }

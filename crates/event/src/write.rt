@@ -13,7 +13,7 @@ use crate::slot::slot_at;
 use crate::source::Source;
 use settings::severity::acting_severity;
 use wire::number::LittleEndian;
-use wire::places::CONDITIONS;
+use wire::places::{CONDITIONS, THREE_BITS};
 
 // Bytes of a record.
 pub const EVENT_SIZE: usize = 16;
@@ -47,7 +47,7 @@ fn head(source: &Source<'_>, condition: u8, kind: EventKind, severity: u16) -> u
         + SEVERITY * u64::from(severity)
 }
 
-// A record, as two numbers.
+// A record, as two numbers. No other contract asks for this length, so that no type for it is plainer.
 fn put_record(out: &mut [u8], at: usize, head: u64, time: u64)
     requires { at + 16 ≤ length out.old }
     ensures { out.new ≡ sets out.old at (bytes 8 head ++ bytes 8 time) }
@@ -88,7 +88,8 @@ fn put_bits(out: &mut [u8], start: usize, first: u64, time: u64, events: u32, co
     at
 }
 
-// The records of the bits of the whole alarm, which has severity 0. Most words have none.
+// The records of the bits of the whole alarm, which has severity 0. Most words have none, which the remainder says of all nine at once; their
+// names would be nine tests.
 fn put_whole(out: &mut [u8], at: usize, source: &Source<'_>, word: u32) -> usize
     requires { at + length (records_of source.now.time first_condition (head_of source.now.number 7 1 source.now.suppressed 0) word) ≤ length out.old }
     ensures value { result ≡ at + length (records_of source.now.time first_condition (head_of source.now.number 7 1 source.now.suppressed 0) word) }
@@ -102,13 +103,13 @@ fn put_whole(out: &mut [u8], at: usize, source: &Source<'_>, word: u32) -> usize
     put_bits(out, at, first, source.time, word, WHOLE_BITS)
 }
 
-// The records of the three bits of the condition at a place. Without a bit nothing is read.
+// The records of the three bits of the condition at a place. Without a bit, which one remainder says of the three, nothing is read.
 fn put_condition(out: &mut [u8], at: usize, source: &Source<'_>, place: usize, word: u32) -> usize
     requires { (place < 6) × (at + length (source_log source.now 3 (condition_bit place 0) word) ≤ length out.old) }
     ensures value { result ≡ at + length (source_log source.now 3 (condition_bit place 0) word) }
     ensures out_after { out.new ≡ sets out.old at (source_log source.now 3 (condition_bit place 0) word) }
 {
-    if word % 8 == 0 {
+    if word % THREE_BITS == 0 {
         return at;
     }
     let slot = slot_at(source, place);
@@ -130,7 +131,7 @@ fn put_conditions(out: &mut [u8], start: usize, source: &Source<'_>, word: u32) 
             return at;
         }
         at = put_condition(out, at, source, place, rest);
-        rest /= 8;
+        rest /= THREE_BITS;
     }
     at
 }

@@ -108,7 +108,8 @@ fn put_record(out: &mut [u8], at: usize, alarm: Alarm) -> usize
     }
 }
 
-// Writes the records of the alarms from place `first` to before `end` and answers the offset past them.
+// Writes the records of the alarms from place `first` to before `end` and answers the offset past them. The places are worked out from the
+// count for this call, so no struct of them is plainer; of `end` no other contract says that it is at most all places.
 fn put_records(
     out: &mut [u8],
     start: usize,

@@ -29,7 +29,7 @@ pub fn lowest(w: u64) -> u8
     (w % 256) as u8
 }
 
-// Two halves as a word.
+// Two halves as a word: of numbers, and by their patterns of REALs (`real_pair`), so that it has no twin.
 pub fn pair(l: u32, h: u32) -> u64
     ensures { (result ≡ pair_of l h) × (lower_of result ≡ l) × (upper_of result ≡ h) }
 {

@@ -16,6 +16,7 @@ fn digital_words(flags: u8, duration: u32, severity: u32) -> [u64; ALARM_WORDS]
     [first, 0, 0, 0, 0, pair(severity, 0), 0, 0]
 }
 
+// Its parameters are the parts that the match on an alarm's kind has; a struct of them would be made for this call alone.
 fn analog_words(
     flags: u8,
     duration: u32,

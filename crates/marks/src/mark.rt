@@ -10,7 +10,7 @@ use layout::sizes::{ALARM_WORDS, MARK_WORDS};
 use settings::types::Form;
 use wire::bits::is_set;
 use wire::choice::choose;
-use wire::places::{ACK_REQUIRED, ANALOG_ACK_REQUIRED, CONDITIONS, COUNT_RESET};
+use wire::places::{ACK_REQUIRED, ANALOG_ACK_REQUIRED, CONDITIONS, COUNT_RESET, THREE_BITS};
 
 // Where the count reset stamp stands, and the words of the first condition.
 pub const RESET_STAMP: usize = 0;
@@ -31,7 +31,8 @@ pub fn required_in(settings: &[u64; ALARM_WORDS], form: Form) -> bool
     }
 }
 
-// Marks what a scan did to the six conditions. It ends once no events are left, unless the counts are reset.
+// Marks what a scan did to the six conditions. It ends once no events are left, unless the counts are reset. A struct of what both functions
+// take would be made for one call: each condition gets a `Change` of its own.
 fn mark_conditions(
     marks: &mut [u64; MARK_WORDS],
     required: bool,
@@ -60,7 +61,7 @@ fn mark_conditions(
             time,
         };
         mark_condition(words, change);
-        rest /= 8;
+        rest /= THREE_BITS;
     }
 }
 

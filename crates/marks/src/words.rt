@@ -6,6 +6,7 @@ ghost use Rattle.marks.specs.Internal.Marks.{marks_at, marks_words, turn_by};
 use condition::mark::{ack_stamp, count_after};
 use wire::bits::is_set;
 use wire::choice::choose;
+use wire::places::THREE_BITS;
 
 // The words of a condition.
 pub const CONDITION_WORDS: usize = 4;
@@ -40,7 +41,7 @@ pub fn mark_condition(words: &mut [u64; CONDITION_WORDS], change: Change)
         start,
         time,
     } = change;
-    if !reset & (events % 8 == 0) {
+    if !reset & (events % THREE_BITS == 0) {
         return;
     }
     let acknowledged = is_set(events, ACKNOWLEDGED);

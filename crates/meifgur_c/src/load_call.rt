@@ -12,7 +12,7 @@ use host_bytes::answer::put_words;
 use layout::block::counts_in;
 
 // Writes the bank of a settings image, or of a refused one a bank without alarms. Blocks of other lengths are left. The C interface
-// passes the three blocks one by one, here and in the other calls.
+// passes the three blocks one by one, and each answer has a length of its own, tested by its call.
 #[unsafe(no_mangle)]
 pub extern "C" fn meifgur_load_words(
     image: &[u8],

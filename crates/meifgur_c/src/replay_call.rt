@@ -11,7 +11,7 @@ use replay::replay::replay;
 
 // Runs each record of `records` as a scan of its own and passes over those that are refused; the events stand one after the
 // other in `events`.
-// The three blocks are parameters: the C interface.
+// The three blocks are parameters, and the answer has a length of its own, tested here: the C interface.
 #[unsafe(no_mangle)]
 pub extern "C" fn meifgur_replay_words(
     settings: &[u64],

@@ -21,7 +21,7 @@ fn put_said(out: &mut [u8], said: AlarmReport)
 }
 
 // Fills the front of `out` with the 224 bytes of an alarm's report, or refuses and leaves every byte.
-// The three blocks are parameters: the C interface.
+// The three blocks are parameters, and the answer has a length of its own, tested here: the C interface.
 #[unsafe(no_mangle)]
 pub extern "C" fn meifgur_report_words(
     settings: &[u64],

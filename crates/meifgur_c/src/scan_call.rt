@@ -10,7 +10,7 @@ use host_bytes::answer::put_words;
 use scan::scan::scan;
 
 // Runs one scan record in place and fills the front of `events`, or refuses and leaves every word and byte.
-// The three blocks are parameters: the C interface.
+// The three blocks are parameters, and the answer has a length of its own, tested here: the C interface.
 #[unsafe(no_mangle)]
 pub extern "C" fn meifgur_scan_words(
     settings: &[u64],

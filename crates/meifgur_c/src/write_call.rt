@@ -8,7 +8,8 @@ use crate::answers::{SHORT_ANSWER, WRITE_ANSWER, counted_words, number_in};
 use host_bytes::answer::put_words;
 use image::write::write;
 
-// Fills the front of `out` with the image of the settings, or refuses and leaves every byte.
+// Fills the front of `out` with the image of the settings, or refuses and leaves every byte. The answer has a length of its own,
+// tested here: the C interface.
 #[unsafe(no_mangle)]
 pub extern "C" fn meifgur_write_words(settings: &[u64], out: &mut [u8], answer: &mut [u64]) -> u32
     ensures value { result ≡ unless (short_answer 3 answer.old) 40 (number_in (write_of settings.now (length out.old))) }

@@ -17,7 +17,8 @@ pub struct Section {
     pub next: usize,
 }
 
-// Reads the records of the alarms from place `first` to before `end`, or answers the first refusal.
+// Reads the records of the alarms from place `first` to before `end`, or answers the first refusal. The places are worked out from the count
+// for this call, so no struct of them is plainer; of `end` no other contract says that it is at most all places.
 fn records(
     image: &[u8],
     at: usize,

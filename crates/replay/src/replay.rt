@@ -25,7 +25,7 @@ pub struct Tally {
     pub first: Option<FirstRefusal>,
 }
 
-// Before the first record.
+// Before the first record. By name and no derived default, since a contract names it.
 pub fn none_yet() -> Tally
     ensures { result ≡ none_yet }
 {

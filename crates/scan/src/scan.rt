@@ -88,6 +88,7 @@ fn scan_bank(
 
 // Runs one scan in place: fills the front of `out` with its events and answers how many they are, or refuses and leaves every word and byte.
 // The three blocks come one by one, as the exported calls are lent them: before their lengths are looked at they have nothing in common.
+// They are tested here, since no function can hand out arrays of several `&mut` parameters.
 pub fn scan(
     settings: &[u64],
     states: &mut [u64],

@@ -58,7 +58,8 @@ fn is_bounded_pattern(pattern: u32) -> bool
     pattern % SIGN <= LARGEST
 }
 
-// No function for both forms is plainer: they read a byte or a REAL, and refuse it for other reasons.
+// No function for both forms is plainer: they read a byte or a REAL, and refuse it for other reasons. Each has a length of its own, which one
+// contract asks for, so that no type for it is plainer.
 fn digital_entry(bytes: &[u8], at: usize, alarm: usize) -> Result<Entry, Refusal>
     requires { at + 5 ≤ length bytes.now }
     ensures { result ≡ entry_at Form.Digital bytes.now at alarm }

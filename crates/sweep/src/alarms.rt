@@ -19,6 +19,8 @@ use settings::types::Form;
 use wire::number::LittleEndian;
 
 // Steps the alarms of one form. Their events go to `out` from `start` on, as in the writer of event records; answers the offset past them.
+// A part's offset goes on from the last one's, as in the definition. Of the group's last place no other contract says that it is at most all
+// places.
 fn scan_group(
     scan: &Scan<'_>,
     group: Group<'_>,

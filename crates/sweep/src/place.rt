@@ -98,7 +98,8 @@ fn log_place(
     put_events(out, used, &source, events)
 }
 
-// Steps the alarm, writes its events to `out` from `used` on, marks them, and answers the offset past them.
+// Steps the alarm, writes its events to `out` from `used` on, marks them, and answers the offset past them. Its parameters are
+// four structs and buffers with lives of their own: a struct of these would be made for this call alone.
 pub fn step_place(
     scan: &Scan<'_>,
     part: Part<'_>,

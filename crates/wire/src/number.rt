@@ -1,4 +1,5 @@
-// Values that stand in a slice of bytes, the lowest byte first.
+// Values that stand in a slice of bytes, the lowest byte first. Each function takes an offset whose value fits, and no cursor: callers know
+// their offsets, and read at them in an order of their own.
 ghost use Rattle.std.specs.Prelude.{◌≡◌, ℕ, List, ◌+◌, ◌^◌, ◌≤◌, ◌<◌, length};
 ghost use Rattle.std.proofs.lemmas.List.Edits.{sets};
 ghost use Rattle.wire.specs.Number.{part, number, bytes};

@@ -5,6 +5,9 @@ ghost use Rattle.wire.specs.Internal.Places.{six_bits};
 
 use crate::choice::choose;
 
+// What a one counts past three bits: the flags begin with an alarm's three modes, and both words have three bits for each condition.
+pub const THREE_BITS: u32 = 8;
+
 pub const DISABLED: u32 = 1;
 
 pub const SUPPRESSED: u32 = 2;
@@ -32,15 +35,15 @@ pub const HH_UNACKED: u32 = 2 * CONDITIONS;
 
 pub const HH_ROW: u32 = 4 * CONDITIONS;
 
-pub const H: u32 = 8 * HH;
+pub const H: u32 = THREE_BITS * HH;
 
-pub const L: u32 = 8 * H;
+pub const L: u32 = THREE_BITS * H;
 
-pub const LL: u32 = 8 * L;
+pub const LL: u32 = THREE_BITS * L;
 
-pub const ROCPOS: u32 = 8 * LL;
+pub const ROCPOS: u32 = THREE_BITS * LL;
 
-pub const ROCNEG: u32 = 8 * ROCPOS;
+pub const ROCNEG: u32 = THREE_BITS * ROCPOS;
 
 // In an alarm's settings: of a digital one the bit that is watched for, AckRequired and Latched; of an analog one the enabled
 // levels and AckRequired.
@@ -76,6 +79,7 @@ pub const AT_ROCPOS: u32 = 4096;
 
 pub const AT_ROCNEG: u32 = 32768;
 
+// All of these bits or none. It has no twin: what it chooses by `choose` is one constant.
 pub fn every(b: bool) -> u32
     ensures { result ≡ cond b six_bits 0 }
 {

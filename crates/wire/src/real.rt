@@ -30,6 +30,7 @@ pub fn to_pattern(x: f32) -> u32
     if x == x { f32::to_bits(x) } else { 0x7FC0_0000 }
 }
 
+// By comparison too, and no range's `contains`: the laws are about the two comparisons.
 pub fn is_bounded(x: f32) -> bool
     ensures { result ≡ bounded x }
 {

@@ -11,6 +11,7 @@ use Rattle.bank.specs.Internal.Bank.{Bank}
 abbrev pub words_in : List ℕ → List ℕ → List ℕ → Words
 words_in settings states marks = record { settings = settings; states = states; marks = marks }
 
+-- what follows from an answer: two cases, where a word for each would be longer
 abbrev pub on_reply : {X : Type 0} → Result ⊤ Refusal → X → (Refusal → X) → X
 on_reply (Ok accepted) x f = x
 on_reply (Err r) x f = f r
