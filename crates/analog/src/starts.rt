@@ -21,8 +21,8 @@ fn rows_begin(flags: u32, enabled: bool, met: u32) -> u32
     only_in(met & every(enabled), flags / HH_ROW)
 }
 
-// The starts of both sides and of the six conditions. Most scans begin none. Flags, `enabled` and `met` are worked out one by one where it is
-// called, and go on together to `rows_begin` alone: a struct of them is no plainer.
+// The starts of both sides and of the six conditions. Most scans begin none. Flags, `enabled` and `met` come from the state, the modes
+// and the reading, and no struct keeps them together, here and above.
 pub fn begin_all(starts: &mut [u64; STARTS_WORDS], flags: u32, enabled: bool, met: u32, time: u64)
     ensures { starts.new ≡ keep_starts (all_begin flags enabled met) time 0 starts.old }
 {

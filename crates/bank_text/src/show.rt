@@ -20,7 +20,7 @@ impl fmt::Display for Refused {
 }
 
 // The numbers of the conditions of an alarm: 0 for the one of a digital alarm, and 1 to 6 for those of an analog one. All of them, where
-// `slot_at` of event has the byte of one.
+// `slot_at` of event has the byte of one; numbers and no enum, since they are counted up and printed.
 pub fn condition_numbers(form: Form) -> Range<usize>
     ensures { result ≡ record { start = first_number form; end = end_of_numbers form } }
 {

@@ -1,5 +1,5 @@
 // What an alarm's command word commands in a scan: what rises, acknowledgements and resets.
-ghost use Rattle.std.specs.Prelude.{◌≡◌, ◌/◌, ◌%◌, ◌<◌, not, ◌&&◌, eqb};
+ghost use Rattle.std.specs.Prelude.{◌≡◌, ◌/◌, ◌%◌, ◌<◌, not, ◌&&◌, ◌||◌, eqb};
 ghost use Rattle.wire.specs.Internal.Words.{word_of, spread};
 ghost use Rattle.condition.specs.Command.{resets, acks_all};
 ghost use Rattle.condition.specs.Internal.Outcome.{ack_bits};
@@ -23,16 +23,24 @@ impl Command {
         is_set(self.word, unit) & !is_set(self.previous, unit)
     }
 
+    // Whether the program's bit rises, or the operator's is set.
+    fn acts(self, program: u32, operator: u32) -> bool
+        requires { (0 < program) × (0 < operator) }
+        ensures { result ≡ (eqb (self.word / program % 2) 1 && not (eqb (self.previous / program % 2) 1) || eqb (self.word / operator % 2) 1) }
+    {
+        self.rises(program) | is_set(self.word, operator)
+    }
+
     pub fn acks_all(self) -> bool
         ensures { result ≡ acks_all self.word self.previous }
     {
-        self.rises(PROG_ACK) | is_set(self.word, OPER_ACK)
+        self.acts(PROG_ACK, OPER_ACK)
     }
 
     pub fn resets(self) -> bool
         ensures { result ≡ resets self.word self.previous }
     {
-        self.rises(PROG_RESET) | is_set(self.word, OPER_RESET)
+        self.acts(PROG_RESET, OPER_RESET)
     }
 
     // A bit for each condition of an analog alarm, HH, H, L, LL, ROCPos, ROCNeg, at every third place. Most scans command

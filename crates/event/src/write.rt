@@ -1,4 +1,4 @@
-// The writer of event records. Each function takes the buffer with an offset and answers the offset past what it wrote, as the definitions
+// The writer of event records. Each function takes the buffer with an offset and answers the offset past what it wrote, as the clauses
 // say it; a cursor would have to say in each contract that it still lends the same buffer.
 ghost use Rattle.std.specs.Prelude.{◌≡◌, ◌++◌, ◌+◌, ◌*◌, ◌^◌, ◌≤◌, ◌<◌, length};
 ghost use Rattle.std.proofs.lemmas.List.Edits.{sets};
@@ -70,8 +70,8 @@ fn put_bit(out: &mut [u8], at: usize, head: u64, time: u64, word: u32) -> usize
     }
 }
 
-// The records of the lowest bits of a word, of kinds one after the other: counted and not named, since a word may have bits between those of
-// a kind. The loop goes on as the definition does, and the bounds keep the sums within 64 bits.
+// The records of the lowest bits of a word, of kinds one after the other: counted and not named, since a word may have bits that are no
+// kind's. The loop goes on as the definition does, and the bounds keep the sums within 64 bits.
 fn put_bits(out: &mut [u8], start: usize, first: u64, time: u64, events: u32, count: usize) -> usize
     requires { (first < 2 ^ 48) × (count ≤ 9) × (start + length (records_of time count first events) ≤ length out.old) }
     ensures value { result ≡ start + length (records_of time count first events) }

@@ -37,8 +37,8 @@ fn new_rate(period: u32, stored: f32, x: f32) -> f32
     (x - stored) * 1000.0 / period_real(period)
 }
 
-// The pattern of a new sample's rate, by the pattern of the stored one. What it takes has one caller, which has worked it out by itself, so no
-// struct of it is plainer.
+// The pattern of a new sample's rate, by the pattern of the stored one. Period, stored value and new value are of the
+// settings, the state and the record, and no struct keeps them together, here and in `new_rate`.
 pub fn rate_pattern(period: u32, stored: u32, x: f32) -> u32
     ensures { result ≡ to_bits binary32 (new_rate period (of_bits binary32 stored) x) }
 {

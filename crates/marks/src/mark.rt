@@ -48,7 +48,7 @@ fn mark_conditions(
         if rest == 0 && !reset {
             return;
         }
-        // in each turn: `as_chunks_mut` says nothing of what the whole becomes, and no function that hands out a part of a parameter proves
+        // in each turn: `as_chunks_mut` says nothing of what the whole becomes, and no function that hands out a `&mut` part proves
         let (_, behind) = marks.split_at_mut(FIRST_CONDITION + CONDITION_WORDS * place);
         let Some(words) = behind.first_chunk_mut() else {
             unreachable!()

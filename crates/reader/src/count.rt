@@ -1,4 +1,5 @@
-// The count byte in front of a section.
+// The count byte in front of a section. Image and offset are two parameters, here and in sections and records, as in the definitions: the
+// offset is another one at each call.
 ghost use Rattle.std.specs.Prelude.{◌≡◌};
 ghost use Rattle.reader.specs.Count.{count_at};
 

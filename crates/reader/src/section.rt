@@ -1,4 +1,4 @@
-// A section of a settings image: its count, then a record for each alarm.
+// A section of a settings image: its count, then a record for each alarm. Image and offset as in the count (count.rt).
 ghost use Rattle.std.specs.Prelude.{◌≡◌, ◌+◌, ◌-◌, ◌≤◌};
 ghost use Rattle.settings.specs.Counts.{all_most};
 ghost use Rattle.reader.specs.Section.{records_from, section_at};
@@ -18,7 +18,8 @@ pub struct Section {
 }
 
 // Reads the records of the alarms from place `first` to before `end`, or answers the first refusal. The places are worked out from the count
-// for this call, so no struct of them is plainer; of `end` no other contract says that it is at most all places.
+// for this call, so no struct of them is plainer. That `end` is at most all places is a clause and no type, since there are no counts yet that
+// a bank may have.
 fn records(
     image: &[u8],
     at: usize,

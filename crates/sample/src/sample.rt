@@ -22,8 +22,8 @@ fn stays_in(flags: u32, period: u32, sampled: u64, time: u64) -> bool
     is_set(flags, SAMPLED) & (time.saturating_sub(sampled) < u64::from(period))
 }
 
-// The pattern of a rate that does not stay: from the stored value to a new one, or 0 where there is none. `resample` alone calls it: what
-// it takes goes no further together.
+// The pattern of a rate that does not stay: from the stored value to a new one, or 0 where there is none. It is called once,
+// and a struct of period, stored pair and x would be taken apart at once.
 fn new_rate(flags: u32, enabled: bool, period: u32, stored: u64, x: f32) -> u32
     ensures { result ≡ cond (enabled && bit flags sampled_flag) (to_bits binary32 (new_rate period (of_bits binary32 (lower_of stored)) x)) 0 }
 {

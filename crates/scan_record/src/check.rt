@@ -32,8 +32,9 @@ pub fn record_length(counts: Counts) -> usize
 
 // Checks the alarms of one form, at the places from `first` to before `end`, whose parts begin at `begin`, in number order, and answers
 // the first refusal. Each call names its form, so that no turn of the loop has to ask for it. That the loop ends by `break` is a rule of the
-// project (document 01, the right form for each place). The offset goes on from part to part, as in the definition, which has no count of
-// parts to work one out from. Its caller works out begin and places for this call, so no struct of them is plainer.
+// project (document 01, the right form for each place). The offset goes on from part to part, as in the definition, which knows
+// the places that are left and not how many parts are passed. Its caller works out begin and places for this call, so no struct of them is
+// plainer.
 fn check_form(
     bytes: &[u8],
     form: Form,

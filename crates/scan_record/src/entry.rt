@@ -1,4 +1,4 @@
-// One alarm's part of a scan record.
+// One alarm's part of a scan record. Record and offset are two parameters, as in the definitions: the offset is another one at each call.
 ghost use Rattle.std.specs.Prelude.{◌≡◌, ◌+◌, ◌≤◌, length};
 ghost use Rattle.std.specs.Float.{binary32};
 ghost use Rattle.std.specs.Float.Ieee.{of_bits};
@@ -51,7 +51,8 @@ const SIGN: u32 = 0x8000_0000;
 
 const LARGEST: u32 = 0x5863_5FA9;
 
-// Whether the REAL of a bit pattern is within the bound: without their signs patterns stand in the order of magnitudes.
+// Whether the REAL of a bit pattern is within the bound: without their signs patterns stand in the order of magnitudes. Not by `is_bounded`,
+// which takes a REAL: to make one of every reading was tried, and made the check of a record slower (docs/DECISIONS.md, 2).
 fn is_bounded_pattern(pattern: u32) -> bool
     ensures { result ≡ bounded (of_bits binary32 pattern) }
 {

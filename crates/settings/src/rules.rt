@@ -91,7 +91,8 @@ fn sides_apart(flags: u8, g: Limits) -> bool
     (low < high - g.deadband) & (low + g.deadband < high)
 }
 
-// The rules on the order of levels and on Deadband, refusal 5.
+// The rules on the order of levels and on Deadband, refusal 5. It and what it calls take flags and limits, as the definitions do; `levels_of`
+// joins the two where a rule asks for both.
 pub fn levels_apart(flags: u8, g: Limits) -> bool
     ensures { result ≡ apart reals flags (real_limit g) g.deadband }
 {

@@ -21,7 +21,8 @@ const DIGITAL_FLAGS: u8 = 8;
 
 const ANALOG_FLAGS: u8 = 32;
 
-// Fields by name and no loop over offsets: which stands where is what a reader looks for.
+// Fields by name, here and in `limits_at`, and no loop over offsets: which stands where is what a reader looks for. Two functions, since the
+// fields are others, of another type.
 fn severities_at(bytes: &[u8; ANALOG_SIZE]) -> Severities
     ensures { result ≡ severities_at bytes.now 0 }
 {
@@ -100,7 +101,8 @@ fn analog_record(bytes: &[u8; ANALOG_SIZE], at: usize) -> Result<Alarm, Refusal>
     })
 }
 
-// The bytes of a record, as many as the caller takes, or the refusal where they don't stand there whole.
+// The bytes of a record, as many as the caller takes, or the refusal where they don't stand there whole. Image and offset are two parameters,
+// here and below, as in the definitions: the offset is another one at each call.
 fn bytes_at<const N: usize>(image: &[u8], at: usize) -> Result<&[u8; N], Refusal>
     ensures whole { IfOk result (λ bytes. (at + N ≤ length image.now) × (bytes.now ≡ part image.now at N)) }
     ensures short { IfErr result (λ e. (length image.now < at + N) × (e ≡ refusal Incomplete at)) }

@@ -19,8 +19,8 @@ use settings::types::Form;
 use wire::number::LittleEndian;
 
 // Steps the alarms of one form. Their events go to `out` from `start` on, as in the writer of event records; answers the offset past them.
-// A part's offset goes on from the last one's, as in the definition. Of the group's last place no other contract says that it is at most all
-// places.
+// A part's offset goes on from the last one's: worked out for each place, as in the definition, it would be two products for each alarm
+// (`offset-next` says that both are the same). That the group ends within all places is a clause and no type: groups are made below alone.
 fn scan_group(
     scan: &Scan<'_>,
     group: Group<'_>,

@@ -1,4 +1,4 @@
-// What a checked record does to the alarm at a place.
+// What a checked record does to the alarm at a place. The buffer goes with an offset as in the writer of event records (crates/event).
 ghost use Rattle.std.specs.Prelude.{◌≡◌, ◌+◌, ◌≤◌, length};
 ghost use Rattle.std.proofs.lemmas.List.Edits.{sets};
 ghost use Rattle.bank.specs.Internal.Blocks.{SameWords};
@@ -26,7 +26,7 @@ fn step_form(scan: &Scan<'_>, part: Part<'_>, states: &mut [u64; STATES_WORDS]) 
     ensures states_after { states.new ≡ part_states scan.now part.entry states.old }
 {
     let settings = part.place.settings_in(scan.settings);
-    // cut out here, and of the marks below: a function that hands out a part of its parameter does not prove
+    // cut out here, and of the marks below: a function that hands out a `&mut` part of its parameter does not prove
     let (_, behind) = states.split_at_mut(part.place.state_at());
     let Some(state) = behind.first_chunk_mut() else {
         unreachable!()
@@ -99,7 +99,7 @@ fn log_place(
 }
 
 // Steps the alarm, writes its events to `out` from `used` on, marks them, and answers the offset past them. Its parameters are
-// four structs and buffers with lives of their own: a struct of these would be made for this call alone.
+// of a scan, an alarm, a bank and a buffer: a struct of these would be made anew for each alarm.
 pub fn step_place(
     scan: &Scan<'_>,
     part: Part<'_>,
