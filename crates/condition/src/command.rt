@@ -52,7 +52,7 @@ impl Command {
             return 0;
         }
         let all = self.acks_all();
-        // bits 0 to 5: the program bits that rise, beside the operator bits
+        // bits 0 to 5, HH first: the program bits that rise, beside the operator bits. By number: their names say where they stand in the word
         let own = only_in(self.word, self.previous) / PROG_ACK_HH | self.word / OPER_ACK_HH;
         spread_of([
             all | is_set(own, 1),

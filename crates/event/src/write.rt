@@ -1,5 +1,5 @@
-// The writer of event records. Each function takes the buffer with an offset and answers the offset past what it wrote, as the clauses
-// say it; a cursor would have to say in each contract that it still lends the same buffer.
+// The writer of event records. What writes takes the buffer with an offset and, but for `put_record`, answers the offset past what it wrote,
+// as the clauses say it; a cursor would have to say in each contract that it still lends the same buffer.
 ghost use Rattle.std.specs.Prelude.{◌≡◌, ◌++◌, ◌+◌, ◌*◌, ◌^◌, ◌≤◌, ◌<◌, length};
 ghost use Rattle.std.proofs.lemmas.List.Edits.{sets};
 ghost use Rattle.wire.specs.Number.{bytes};

@@ -109,8 +109,8 @@ fn put_record(out: &mut [u8], at: usize, alarm: Alarm) -> usize
 }
 
 // Writes the records of the alarms from place `first` to before `end` and answers the offset past them. The places are worked out from the
-// count for this call, so no struct of them is plainer. That `end` is at most all places is a clause and no type: `has_room` has looked at
-// the counts, and answers no value.
+// count for this call, so no struct of them is plainer. That `end` is at most all places is a clause and no type: one for first and end
+// would be made for this call alone.
 fn put_records(
     out: &mut [u8],
     start: usize,

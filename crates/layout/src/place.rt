@@ -16,7 +16,7 @@ pub struct Place {
     pub ghost below: { index < places },
 }
 
-// One function a block: where words begin, a match on the block would be longer than three sums of named sizes, and words differ in length.
+// One function a block: where words begin, a match on the block would be longer than three lines of named sizes, and words differ in length.
 impl Place {
     // The number of the alarm. `as` narrows: a place is below 36.
     pub fn number(self) -> u8

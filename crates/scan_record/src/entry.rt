@@ -52,7 +52,7 @@ const SIGN: u32 = 0x8000_0000;
 const LARGEST: u32 = 0x5863_5FA9;
 
 // Whether the REAL of a bit pattern is within the bound: without their signs patterns stand in the order of magnitudes. Not by `is_bounded`,
-// which takes a REAL: to make one of every reading was tried, and made the check of a record slower (docs/DECISIONS.md, 2).
+// which takes a REAL: the test needs none (docs/DECISIONS.md, 2).
 fn is_bounded_pattern(pattern: u32) -> bool
     ensures { result ≡ bounded (of_bits binary32 pattern) }
 {
