@@ -1,3 +1,4 @@
+pub mod Left
 pub mod Lengths
 pub mod Outside
 pub mod Reading

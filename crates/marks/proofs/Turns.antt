@@ -2,26 +2,24 @@
 use mathlib.Core.Bool.{Bool}
 use mathlib.Core.List.{List}
 use mathlib.Core.Path.{◌≡◌, ap, ◌∙◌}
-use Prim.Native.Nat.{ℕ, ◌+◌, ◌*◌, ◌/◌, ◌^◌}
+use Prim.Native.Nat.{ℕ, ◌+◌, ◌*◌, ◌/◌, ◌%◌, ◌^◌}
 use native.Mathlib.Numerals.{add-one}
 use native.Mathlib.Omega.{arith}
+use lib.Dec.{eqb}
 use lib.ListN.{get_or}
 use lib.Pow.{shr-shr}
 use Rattle.wire.specs.Bits.{bit}
-use Rattle.wire.proofs.WordLaws.{bit-shift}
 use Rattle.wire.specs.Internal.Places.{condition_bit, from_condition}
 use Rattle.settings.specs.Alarm.{blank, ack_required}
 use Rattle.settings.specs.declared.types.Alarm.{Alarm}
 use Rattle.marks.specs.Internal.Marks.{turn_by, mark_condition, mark_conditions, mark_alarm, mark_alarms}
 
--- events without those of the first n conditions, and then of one more
-pub rest-next : (word n : ℕ) {rest : ℕ} → rest ≡ from_condition n word → rest / 8 ≡ from_condition (n + 1) word
-rest-next word n e =
-    let p : condition_bit n 0 + 3 ≡ condition_bit (n + 1) 0 = omega arith in
-    ap (λ (w : ℕ). w / 8) e ∙ shr-shr word (condition_bit n 0) 3 ∙ ap (λ (k : ℕ). word / 2 ^ k) p
+-- a word without its lowest bits, and then without more of them
+pub shift-more : (w a k m : ℕ) {rest : ℕ} → rest ≡ w / 2 ^ a → a + k ≡ m → rest / 2 ^ k ≡ w / 2 ^ m
+shift-more w a k m e p = ap (λ (v : ℕ). v / 2 ^ k) e ∙ shr-shr w a k ∙ ap (λ (j : ℕ). w / 2 ^ j) p
 
-rest-bit : (word n j k : ℕ) {rest : ℕ} → rest ≡ from_condition n word → condition_bit n 0 + j ≡ k → bit rest j ≡ bit word k
-rest-bit word n j k e p = ap (λ (w : ℕ). bit w j) e ∙ bit-shift word (condition_bit n 0) j ∙ ap (bit word) p
+pub bit-behind : (w a k m : ℕ) {rest : ℕ} → rest ≡ w / 2 ^ a → a + k ≡ m → bit rest k ≡ bit w m
+bit-behind w a k m e p = ap (λ (v : ℕ). eqb (v % 2) 1) (shift-more w a k m e p)
 
 -- the first n conditions are marked, and then the next
 pub conditions-next : (required : Bool) (starts : List ℕ) (word time base n : ℕ) (xs : List ℕ) {rest start : ℕ} {marks : List ℕ}
@@ -31,9 +29,9 @@ pub conditions-next : (required : Bool) (starts : List ℕ) (word time base n : 
 unfolding mark_conditions
 conditions-next required starts word time base n xs e f g =
     rw (
-      rest-bit word n 0 (condition_bit n 0) e (omega arith),
-      rest-bit word n 1 (condition_bit n 1) e (omega arith),
-      rest-bit word n 2 (condition_bit n 2) e (omega arith),
+      bit-behind word (condition_bit n 0) 0 (condition_bit n 0) e (omega arith),
+      bit-behind word (condition_bit n 0) 1 (condition_bit n 1) e (omega arith),
+      bit-behind word (condition_bit n 0) 2 (condition_bit n 2) e (omega arith),
       f,
       g,
       add-one n,

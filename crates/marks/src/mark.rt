@@ -10,7 +10,7 @@ use layout::sizes::{ALARM_WORDS, MARK_WORDS};
 use settings::types::Form;
 use wire::bits::is_set;
 use wire::choice::choose;
-use wire::places::{ACK_REQUIRED, ANALOG_ACK_REQUIRED, CONDITIONS, COUNT_RESET, THREE_BITS};
+use wire::places::{ACK_REQUIRED, ANALOG_ACK_REQUIRED, CONDITIONS, COUNT_RESET, SIX};
 
 // Where the count reset stamp stands, and the words of the first condition.
 pub const RESET_STAMP: usize = 0;
@@ -19,6 +19,9 @@ pub const FIRST_CONDITION: usize = 1;
 
 // The conditions that words are kept for.
 pub const MARKED: usize = 6;
+
+// What a one counts past the three bits of each of the six: bits of an event word from there on are no condition's.
+const BEHIND_SIX: u32 = 0o1000000;
 
 // AckRequired, from the alarm's settings.
 pub fn required_in(settings: &[u64; ALARM_WORDS], form: Form) -> bool
@@ -31,8 +34,8 @@ pub fn required_in(settings: &[u64; ALARM_WORDS], form: Form) -> bool
     }
 }
 
-// Marks what a scan did to the six conditions. It ends once no events are left, unless the counts are reset. A struct of what both functions
-// take would be made for one call: each condition gets a `Change` of its own.
+// Marks what a scan did to those of the six conditions that have events, or to all six if the counts are reset. A struct of what both
+// functions take would be made for one call: each condition gets a `Change` of its own.
 fn mark_conditions(
     marks: &mut [u64; MARK_WORDS],
     required: bool,
@@ -43,11 +46,13 @@ fn mark_conditions(
     ensures { marks.new ≡ mark_conditions required starts.now events time 1 6 marks.old }
 {
     let reset = is_set(events, COUNT_RESET);
-    let mut rest = events / CONDITIONS;
-    for place in 0..MARKED {
-        if rest == 0 && !reset {
-            return;
-        }
+    let rest = events / CONDITIONS;
+    // three bits for each condition from `next` on: of one that is to be marked, one of them is set
+    let mut left = choose(reset, SIX, rest % BEHIND_SIX);
+    let mut next = 0;
+    while left != 0 {
+        let skipped = left.trailing_zeros() / 3;
+        let place = next + skipped as usize;
         // in each turn: `as_chunks_mut` says nothing of what the whole becomes, and no function that hands out a `&mut` part proves
         let (_, behind) = marks.split_at_mut(FIRST_CONDITION + CONDITION_WORDS * place);
         let Some(words) = behind.first_chunk_mut() else {
@@ -55,13 +60,14 @@ fn mark_conditions(
         };
         let change = Change {
             reset,
-            events: rest,
+            events: rest >> (3 * place),
             required,
             start: starts[place],
             time,
         };
         mark_condition(words, change);
-        rest /= THREE_BITS;
+        left >>= 3 * (skipped + 1);
+        next = place + 1;
     }
 }
 
