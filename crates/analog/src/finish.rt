@@ -11,23 +11,22 @@ use crate::sides::sides_of;
 use crate::starts::begin_all;
 use condition::command::Command;
 use condition::mode::is_enabled;
-use condition::row::lasted;
+use condition::row::row_lasted;
 use layout::half::{lower, pair, upper};
 use layout::sizes::STATE_USED;
 use six::decide::{Cells, decide};
 use state::offsets::{FLAGS, HIGH, LOW};
 use wire::bits::{is_set, only_in, spread_of, word_of};
-use wire::choice::choose;
 use wire::places::{CONDITIONS, H, HH, HIGH_RUN, L, LL, LOW_RUN, SIX, THREE_BITS};
 
 // The conditions that would be due if they are met.
 fn ready_in(flags: u32, high: u64, low: u64, duration: u32, time: u64) -> u32
     ensures { (result ≡ ready_in flags high low duration time) × (result < 65536) }
 {
-    let above = choose(is_set(flags, HIGH_RUN), high, time);
-    let below = choose(is_set(flags, LOW_RUN), low, time);
-    let h = lasted(above, duration, time) | (is_set(flags, HH) | is_set(flags, H));
-    let l = lasted(below, duration, time) | (is_set(flags, L) | is_set(flags, LL));
+    let above = row_lasted(is_set(flags, HIGH_RUN), high, duration, time);
+    let below = row_lasted(is_set(flags, LOW_RUN), low, duration, time);
+    let h = above | (is_set(flags, HH) | is_set(flags, H));
+    let l = below | (is_set(flags, L) | is_set(flags, LL));
     spread_of([h, h, l, l, true, true])
 }
 
@@ -54,6 +53,7 @@ fn flags_after(modes: u32, met: u32, six: Cells) -> u32
 }
 
 // Ends the scan of an alarm: stores starts, flags and command word, and answers the events.
+#[inline(always)]
 pub fn finish(state: &mut [u64; STATE_USED], inputs: Inputs) -> u32
     ensures value { result ≡ inputs.modes / 8 + condition_unit * (decided_by state.old inputs).events }
     ensures state_after { state.new ≡ set (keep_starts (begins_by state.old inputs) inputs.time 3 state.old) 0

@@ -40,6 +40,7 @@ fn frees_in(flags: u32, met: u32, limits: Limits, reading: Reading) -> u32
 }
 
 // Steps an alarm with its reading, and answers its events.
+#[inline(always)]
 pub fn analog_step(
     settings: &[u64; ALARM_WORDS],
     state: &mut [u64; STATE_USED],

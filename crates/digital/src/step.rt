@@ -10,7 +10,7 @@ ghost use Rattle.wire.specs.Internal.Places.{condition_unit};
 use condition::command::Command;
 use condition::mode::{is_enabled, modes};
 use condition::outcome::condition;
-use condition::row::lasted;
+use condition::row::row_lasted;
 use layout::half::{lower, pair, upper};
 use layout::read::{duration_in, flags_in};
 use layout::sizes::{ALARM_WORDS, STATE_USED};
@@ -23,13 +23,11 @@ use wire::places::{
     ACK_REQUIRED, CONDITION, CONDITIONS, HH, HH_ROW, HH_UNACKED, LATCHED, THREE_BITS,
 };
 
-// Stores flags and command word, and the start of the row where it begins.
+// Stores flags and command word, and the start of the row where it begins. Without a branch: that a row begins can't be foreseen.
 fn keep(state: &mut [u64; STATE_USED], first: u64, begins: bool, time: u64)
     ensures { state.new ≡ set (keep_start begins time 5 state.old) 0 first }
 {
-    if begins {
-        state[STARTS] = time;
-    }
+    state[STARTS] = choose(begins, time, state[STARTS]);
     state[FLAGS] = first;
 }
 
@@ -52,6 +50,7 @@ fn rests(first: u64, met: bool) -> bool
 }
 
 // Steps an alarm with its reading, and answers its events.
+#[inline(always)]
 pub fn digital_step(
     settings: &[u64; ALARM_WORDS],
     state: &mut [u64; STATE_USED],
@@ -76,7 +75,7 @@ pub fn digital_step(
     let enabled = is_enabled(m);
     let frees = !is_set(set, LATCHED) | command.resets();
     let on = is_set(flags, HH_ROW);
-    let ready = lasted(choose(on, begun, time), duration_in(settings), time);
+    let ready = row_lasted(on, begun, duration_in(settings), time);
     let ack = command.acks_all();
     let c = condition(
         flags / HH,

@@ -1,4 +1,5 @@
-// One scan of a bank, in place.
+// One scan of a bank, in place. Hints on inlining are for speed: a call for each alarm, and the frame of the copies that a short buffer needs,
+// cost more than the code (docs/DECISIONS.md, 47).
 ghost use Rattle.std.specs.Prelude.{◌≡◌, length};
 ghost use Rattle.bank.specs.Internal.Words.{words_in, bank_in};
 ghost use Rattle.bank.specs.Internal.Blocks.{kept_words, SameWords};
@@ -32,6 +33,8 @@ fn most_bytes(good: GoodCounts) -> usize
 
 // Runs a checked record where the buffer may be too short: on copies, with a buffer that suffices, and takes them over if it was
 // not. A refused scan writes nothing.
+#[cold]
+#[inline(never)]
 fn scan_short(
     settings: &[u64; SETTINGS_WORDS],
     kept: &mut Kept<'_>,
@@ -64,6 +67,7 @@ fn scan_short(
 }
 
 // Checks a record and runs it on a bank.
+#[inline(always)]
 fn scan_bank(
     settings: &[u64; SETTINGS_WORDS],
     kept: &mut Kept<'_>,
@@ -89,6 +93,7 @@ fn scan_bank(
 // Runs one scan in place: fills the front of `out` with its events and answers how many they are, or refuses and leaves every word and byte.
 // The three blocks come one by one, as the exported calls are lent them: before their lengths are looked at they have nothing in common.
 // They are tested here, since no function can hand out arrays of several `&mut` parameters.
+#[inline(always)]
 pub fn scan(
     settings: &[u64],
     states: &mut [u64],

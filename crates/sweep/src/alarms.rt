@@ -1,4 +1,5 @@
-// What a checked record does to all alarms of a bank: digital ones first, then analog ones.
+// What a checked record does to all alarms of a bank: digital ones first, then analog ones. Hints on inlining as in crates/scan: a loop for each
+// form, with no call in it where nothing happens.
 ghost use Rattle.std.specs.Prelude.{◌≡◌, ◌+◌, ◌*◌, ◌≤◌, length};
 ghost use Rattle.std.proofs.lemmas.List.Edits.{sets};
 ghost use Rattle.settings.specs.Counts.{all_most};
@@ -21,6 +22,7 @@ use wire::number::LittleEndian;
 // Steps the alarms of one form. Their events go to `out` from `start` on, as in the writer of event records; answers the offset past them.
 // A part's offset goes on from the last one's: worked out for each place, as in the definition, it would be two products for each alarm
 // (`offset-next` says that both are the same). That the group ends within all places is a clause and no type: groups are made below alone.
+#[inline(always)]
 fn scan_group(
     scan: &Scan<'_>,
     group: Group<'_>,
@@ -65,6 +67,7 @@ fn scan_group(
 
 // Runs a checked record where the buffer suffices, whatever the events are: steps every alarm with its part, writes the
 // events to the front of `out`, keeps the time, and answers how many bytes the events have.
+#[inline(always)]
 pub fn scan_alarms(
     settings: &[u64; SETTINGS_WORDS],
     kept: &mut Kept<'_>,

@@ -21,6 +21,7 @@ use wire::number::LittleEndian;
 use wire::places::SUPPRESSED;
 
 // Steps the alarm with its part of the record, and answers its event word.
+#[inline(always)]
 fn step_form(scan: &Scan<'_>, part: Part<'_>, states: &mut [u64; STATES_WORDS]) -> u32
     ensures value { result ≡ (part_step scan.now part.entry states.old).events }
     ensures states_after { states.new ≡ part_states scan.now part.entry states.old }
@@ -48,6 +49,7 @@ fn step_form(scan: &Scan<'_>, part: Part<'_>, states: &mut [u64; STATES_WORDS]) 
 }
 
 // Marks the events of an alarm that was stepped in its counts and stamps. Most alarms have none.
+#[inline(always)]
 fn mark_place(
     scan: &Scan<'_>,
     part: Part<'_>,
@@ -72,6 +74,7 @@ fn mark_place(
 }
 
 // Writes the events of an alarm that was stepped, and answers the offset past them.
+#[inline(always)]
 fn log_place(
     scan: &Scan<'_>,
     part: Part<'_>,
@@ -100,6 +103,7 @@ fn log_place(
 
 // Steps the alarm, writes its events to `out` from `used` on, marks them, and answers the offset past them. Its parameters are
 // of a scan, an alarm, a bank and a buffer: a struct of these would be made anew for each alarm.
+#[inline(always)]
 pub fn step_place(
     scan: &Scan<'_>,
     part: Part<'_>,

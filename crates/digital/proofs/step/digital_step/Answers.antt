@@ -62,12 +62,9 @@ returns c =
     let on = c.is_set-on.ensures ∙ ap (λ (f : ℕ). bit f (condition_bit 0 2)) low in
     let met' = c.is_bit-met.ensures ∙ ap (λ (b : Bool). is_bit b x) watched in
     let reset = c.resets.ensures ∙ ap (resets g.word) up in
-    let start =
-    c.choose.ensures
-    ∙ ap (λ (b : Bool). cond b s.hh g.time) on in
     let ready =
-    c.lasted-ready.ensures
-    ∙ (λ i. leb (c.duration_in.ensures i) (g.time - start i)) in
+    c.row_lasted-ready.ensures
+    ∙ (λ i. leb (c.duration_in.ensures i) (g.time - cond (on i) s.hh g.time)) in
     let ack = c.acks_all-ack.ensures ∙ ap (acks_all g.word) up in
     let alarm = ap (λ (f : ℕ). bit (from_condition 0 f) 0) low ∙ bit-shift s.flags first_condition 0 in
     let unacked = ap (λ (f : ℕ). bit (from_condition 0 f) 1) low ∙ bit-shift s.flags first_condition 1 in
