@@ -1,4 +1,5 @@
-pub mod Groups
+pub mod Heads
 pub mod Logs
+pub mod Lowest
 pub mod Slots
 pub mod Stores

@@ -3,7 +3,7 @@ use mathlib.Core.Path.{◌≡◌, refl, sym, ap, ◌∙◌}
 use mathlib.Core.Bool.{Bool, true, false, cond}
 use mathlib.Core.List.{List, [], ◌∷◌, ◌++◌, append_assoc}
 use Prim.Native.Nat.{ℕ, zero, suc, ◌+◌, ◌*◌, ◌/◌, ◌%◌, ◌^◌, ◌≤◌, ◌<◌}
-use native.Mathlib.Nat.{zero-add, add-zero, pow-zero, pow-succ', div-one, mul_assoc, div-div-eq-div-mul}
+use native.Mathlib.Nat.{zero-add, add-zero, pow-zero, pow-succ', div-one, div-div-eq-div-mul}
 use native.Mathlib.Omega.{arith}
 use borrow.Author.Tests.{eqb-true, eqb-false}
 use lib.Dec.{eqb}
@@ -104,16 +104,3 @@ module _ (alarm : ℕ) (kind : Kind) (suppressed : Bool) (time : ℕ) where
       go : (b : Bool) (e : Event) (ys zs : List Event) {xs : List Event} → xs ≡ ys ++ zs → cond b (e ∷ xs) xs ≡ cond b (e ∷ ys) ys ++ zs
       go true e ys zs h = ap (λ (l : List Event). e ∷ l) h
       go false e ys zs h = h
-
-  -- no bits, no events
-  no_bits : (n k word q : ℕ) → word ≡ 2 ^ n * q → events_of alarm kind suppressed time n k word ≡ []
-  unfolding events_of
-  no_bits zero k word q e = refl
-  no_bits (suc n) k word q e =
-      let p : word ≡ 2 * (2 ^ n * q) = e ∙ rw (pow-succ', mul_assoc) in
-      let z : word % 2 ≡ 0 = omega arith in
-      rw z (no_bits n (suc k) (word / 2) q (omega arith))
-
-  -- a word whose three lowest bits are clear
-  pub no-three : (k word : ℕ) → word % 8 ≡ 0 → events_of alarm kind suppressed time 3 k word ≡ []
-  no-three k word h = no_bits 3 k word (word / 8) (omega arith)

@@ -1,17 +1,15 @@
 -- Laws of the stores that an event record takes. Assumes nothing.
-use mathlib.Core.Path.{◌≡◌, refl, sym, ap, ◌∙◌}
+use mathlib.Core.Path.{◌≡◌, sym, ap, ◌∙◌}
 use mathlib.Core.List.{List, [], ◌∷◌, ◌++◌, append_assoc}
 use mathlib.Core.Bool.{Bool, true, false, cond}
-use Prim.Native.Nat.{ℕ, zero, suc, ◌+◌, ◌*◌, ◌-◌, ◌/◌, ◌%◌, ◌^◌, ◌≤◌, ◌<◌}
-use native.Mathlib.Nat.{pow-succ', mul_assoc}
+use Prim.Native.Nat.{ℕ, suc, ◌+◌, ◌*◌, ◌/◌, ◌%◌, ◌<◌}
 use native.Mathlib.Omega.{arith}
-use borrow.Author.Tests.{eq-eqb}
 use lib.ListN.{length, length-append}
 use lib.Seq.{sets}
 use Rattle.wire.specs.Number.{bytes}
 use Rattle.wire.proofs.Laws.{length-bytes, sets-append, bytes-add}
 use Rattle.event.specs.Event.{Event, event_bytes}
-use Rattle.event.specs.Internal.Bits.{head_of, record_of, records_of}
+use Rattle.event.specs.Internal.Bits.{head_of}
 
 pub length-event : (e : Event) → length (event_bytes e) ≡ 16
 unfolding event_bytes
@@ -58,52 +56,11 @@ pub event-bytes : (e : Event) → e.alarm < 256 → e.condition < 256 → e.kind
 unfolding event_bytes
 event-bytes e a c k s = rw (head_bytes e.alarm e.condition e.kind e.suppressed e.severity a c k s, append_assoc)
 
--- ---- a record for each bit
-
-module _ (time : ℕ) where
-  pub bit-set : (head word : ℕ) → word % 2 ≡ 1 → record_of time head word ≡ bytes 8 head ++ bytes 8 time
-  bit-set head word h = rw (eq-eqb (word % 2) 1 h)
-
-  pub length-record : (head : ℕ) → length (bytes 8 head ++ bytes 8 time) ≡ 16
-  length-record head = omega (arith, length-append (bytes 8 head) (bytes 8 time), length-bytes 8 head, length-bytes 8 time)
-
-  -- the head is stored, and then the time
-  pub record-stores : (out : List ℕ) (at head : ℕ) {l m : List ℕ} → l ≡ sets out at (bytes 8 head) → m ≡ sets l (at + 8) (bytes 8 time)
-      → m ≡ sets out at (bytes 8 head ++ bytes 8 time)
-  record-stores out at head e f =
-      f
-      ∙ rw e
-      (ap (λ (k : ℕ). sets (sets out at (bytes 8 head)) (at + k) (bytes 8 time)) (sym (length-bytes 8 head))
-      ∙ sets-append out at (bytes 8 head) (bytes 8 time))
-
-  -- the bits of a word that are left: the first of them, and those above it
-  left-next : (count bit head word : ℕ) → bit < count
-      → records_of time (count - bit) head word ≡ record_of time head word ++ records_of time (count - (bit + 1)) (head + 65536) (word / 2)
-  unfolding records_of
-  left-next count bit head word h = let n : count - bit ≡ suc (count - (bit + 1)) = omega arith in rw n
-
-  pub left-length : (count bit head word : ℕ) → bit < count
-      → length (records_of time (count - bit) head word)
-      ≡ length (record_of time head word) + length (records_of time (count - (bit + 1)) (head + 65536) (word / 2))
-  left-length count bit head word h =
-      ap length (left-next count bit head word h) ∙ length-append (record_of time head word) (records_of time (count - (bit + 1)) (head + 65536) (word / 2))
-
-  pub left-stores : (out : List ℕ) (at count bit head word : ℕ) → bit < count
-      → sets (sets out at (record_of time head word)) (at + length (record_of time head word)) (records_of time (count - (bit + 1)) (head + 65536) (word / 2))
-      ≡ sets out at (records_of time (count - bit) head word)
-  left-stores out at count bit head word h =
-      sets-append out at (record_of time head word) (records_of time (count - (bit + 1)) (head + 65536) (word / 2))
-      ∙ ap (sets out at) (sym (left-next count bit head word h))
-
-  pub left-none : (count bit head word : ℕ) → count ≤ bit → records_of time (count - bit) head word ≡ []
-  unfolding records_of
-  left-none count bit head word h = let n : count - bit ≡ 0 = omega arith in rw n
-
-  -- no bits, no records
-  pub no-records : (n head word q : ℕ) → word ≡ 2 ^ n * q → records_of time n head word ≡ []
-  unfolding records_of
-  no-records zero head word q e = refl
-  no-records (suc n) head word q e =
-      let p : word ≡ 2 * (2 ^ n * q) = e ∙ rw (pow-succ', mul_assoc) in
-      let z : word % 2 ≡ 0 = omega arith in
-      rw z (no-records n (head + 65536) (word / 2) q (omega arith))
+-- the head is stored, and then the time
+pub record-stores : (out : List ℕ) (at head time : ℕ) {l m : List ℕ} → l ≡ sets out at (bytes 8 head) → m ≡ sets l (at + 8) (bytes 8 time)
+    → m ≡ sets out at (bytes 8 head ++ bytes 8 time)
+record-stores out at head time e f =
+    f
+    ∙ rw e
+    (ap (λ (k : ℕ). sets (sets out at (bytes 8 head)) (at + k) (bytes 8 time)) (sym (length-bytes 8 head))
+    ∙ sets-append out at (bytes 8 head) (bytes 8 time))

@@ -1,6 +1,5 @@
--- The events of an event word, and the records of them.
-use Rattle.std.specs.Prelude.{ℕ, zero, suc, ◌+◌, ◌*◌, ◌/◌, ◌%◌, Bool, cond, List, [], ◌∷◌, ◌++◌, eqb}
-use Rattle.wire.specs.Number.{bytes}
+-- The events of an event word, and the head of a record.
+use Rattle.std.specs.Prelude.{ℕ, zero, suc, ◌+◌, ◌*◌, ◌/◌, ◌%◌, Bool, cond, List, [], ◌∷◌, eqb}
 use Rattle.settings.specs.declared.types.Kind.{Kind}
 use Rattle.settings.specs.declared.types.Form.{Form}
 use Rattle.settings.specs.declared.types.Form.TheVariants.{Digital as DigitalForm, Analog as AnalogForm}
@@ -24,12 +23,3 @@ condition_of AnalogForm place = 1 + place
 abbrev pub head_of : ℕ → ℕ → ℕ → Bool → ℕ → ℕ
 head_of alarm condition kind suppressed severity =
     alarm + 256 * condition + 65536 * kind + 16777216 * cond suppressed 1 0 + 4294967296 * severity
-
--- a record if bit 0 of the word is set
-abbrev pub record_of : ℕ → ℕ → ℕ → List ℕ
-record_of time head word = cond (eqb (word % 2) 1) (bytes 8 head ++ bytes 8 time) []
-
--- a record for each bit of a word that is set, of n bits; from bit to bit the kind goes up by one
-unfoldable pub records_of : ℕ → ℕ → ℕ → ℕ → List ℕ
-records_of time zero head word = []
-records_of time (suc n) head word = record_of time head word ++ records_of time n (head + 65536) (word / 2)
