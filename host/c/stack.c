@@ -107,10 +107,12 @@ static void write_image(void)
     refused += meifgur_write(&bank, out, sizeof out, &answer) != MEIFGUR_OK;
 }
 
+/* With a buffer that always suffices, and with one that does not. */
 static void replay(void)
 {
     struct meifgur_replayed answer;
     refused += meifgur_replay(&bank, records, sizeof records, events, sizeof events, &answer) != MEIFGUR_OK;
+    refused += meifgur_replay(&bank, records, sizeof records, events, MEIFGUR_EVENT_SIZE, &answer) != MEIFGUR_OK;
 }
 
 static const struct measured {

@@ -75,11 +75,11 @@ extern "C" {
 #define MEIFGUR_REPLAY_ANSWER 5u
 
 /*
- * Bytes of stack, measured on a full bank and rounded up (host/c/stack.c measures them). A scan may use more where its
- * event buffer is shorter than 3840 bytes.
+ * Bytes of stack, measured on a full bank and rounded up (host/c/stack.c measures them). A scan whose event buffer might be
+ * too short runs on copies and uses more; so does a replay, once less than that is left of its buffer.
  */
 #define MEIFGUR_LOAD_STACK 6144u
-#define MEIFGUR_SCAN_STACK 17408u
+#define MEIFGUR_SCAN_STACK 1024u
 #define MEIFGUR_SCAN_SHORT_STACK 17408u
 #define MEIFGUR_REPORT_STACK 1024u
 #define MEIFGUR_WRITE_STACK 1024u
