@@ -1,5 +1,5 @@
 -- The report of an alarm as bytes: rows of 32.
-use Rattle.std.specs.Prelude.{ℕ, zero, suc, ◌%◌, ◌^◌, Bool, false, cond, List, [], ◌∷◌, ◌++◌, get_or, map}
+use Rattle.std.specs.Prelude.{ℕ, zero, suc, ◌*◌, ◌%◌, ◌^◌, Bool, false, cond, List, [], ◌∷◌, ◌++◌, get_or, map}
 use Rattle.std.specs.List.{flat_map}
 use Rattle.std.specs.Float.{binary32}
 use Rattle.std.specs.Float.Ieee.{to_bits}
@@ -10,10 +10,17 @@ use Rattle.report.specs.declared.status.Status.{Status}
 use Rattle.report.specs.declared.report.AlarmReport.{AlarmReport}
 use Rattle.host_bytes.specs.declared.rows.Row.{Row}
 
+-- bytes of a row, and of a report
+abbrev pub row_size : ℕ
+row_size = 32
+
+abbrev pub report_size : ℕ
+report_size = 7 * row_size
+
 abbrev pub flag : Bool → ℕ
 flag b = cond b 1 0
 
--- 32 bytes: four flags, a number of four bytes, three times of eight
+-- four flags, a number of four bytes, three times of eight
 unfoldable pub row_bytes : Row → List ℕ
 row_bytes w = map flag w.flags ++ (bytes 4 w.number ++ flat_map (bytes 8) w.times)
 
@@ -48,6 +55,6 @@ condition_bytes cs i = row_bytes (status_row (get_or cs i no_status))
 abbrev pub statuses_bytes : List Status → List ℕ
 statuses_bytes cs = joined (λ i. condition_bytes cs i) 6
 
--- 224 bytes
+-- seven rows
 unfoldable pub report_bytes : AlarmReport → List ℕ
 report_bytes r = row_bytes (whole_row r.alarm r.resettime) ++ statuses_bytes r.conditions

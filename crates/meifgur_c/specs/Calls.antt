@@ -10,7 +10,7 @@ use Rattle.layout.specs.Internal.Block.{counts_in}
 use Rattle.report.specs.declared.report.AlarmReport.{AlarmReport}
 use Rattle.replay.specs.declared.replay.Tally.{Tally}
 use Rattle.replay.specs.declared.replay.FirstRefusal.{FirstRefusal}
-use Rattle.host_bytes.specs.Bytes.{report_bytes}
+use Rattle.host_bytes.specs.Bytes.{report_bytes, report_size}
 
 -- ---- what is new unless a buffer is too short
 
@@ -56,9 +56,9 @@ abbrev pub replay_words : Result Tally Refusal → List ℕ
 replay_words (Ok t) = tally_words t.events t.refused t.first
 replay_words (Err r) = 0 ∷ 0 ∷ refusal_words r ++ 0 ∷ []
 
--- report: the 224 bytes of an accepted one
+-- report: the bytes of an accepted one
 abbrev pub report_out : AlarmReport → List ℕ → List ℕ
 report_out said out = cond (is_ok said.reply) (sets out 0 (report_bytes said)) out
 
 abbrev pub report_code : ℕ → ℕ → AlarmReport → ℕ
-report_code words room said = cond (ltb words 2) 40 (cond (ltb room 224) 41 (number_in said.reply))
+report_code words room said = cond (ltb words 2) 40 (cond (ltb room report_size) 41 (number_in said.reply))

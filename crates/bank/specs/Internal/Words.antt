@@ -1,6 +1,7 @@
 -- A bank in words that a caller lends: settings, states, and counts and stamps. Every content of the words stands for some bank.
 use Rattle.std.specs.Prelude.{ℕ, cond, List, eqb, length, get_or, replicate, Result, Ok, Err, ⊤}
 use Rattle.layout.specs.Internal.Sizes.{marks_size, states_size}
+use Rattle.settings.specs.Counts.{all_most}
 use Rattle.settings.specs.declared.refusals.Refusal.{Refusal}
 use Rattle.layout.specs.Internal.Block.{no_bank, placed, settings_in, is_block, state_at}
 use Rattle.state.specs.Internal.Held.{fresh_state}
@@ -32,6 +33,6 @@ bank_in w =
     record {
       settings = settings_in w.settings;
       time = get_or w.states 0 0;
-      states = placed (λ p. state_in w.states (state_at p)) 24 (replicate 24 fresh_state);
+      states = placed (λ p. state_in w.states (state_at p)) all_most (replicate all_most fresh_state);
       marks = w.marks;
     }

@@ -7,7 +7,7 @@ use Rattle.wire.specs.Internal.Words.{words}
 use Rattle.settings.specs.Refusals.{refusal}
 use Rattle.settings_record.specs.Record.{size_of}
 use Rattle.layout.specs.Internal.Block.{no_bank}
-use Rattle.settings.specs.Counts.{are_good, sum_of}
+use Rattle.settings.specs.Counts.{all_most, are_good, sum_of}
 use Rattle.settings.specs.Alarm.{blanks}
 use Rattle.settings.specs.declared.counts.Counts.{Counts}
 use Rattle.layout.specs.Internal.Words.{alarm_in}
@@ -82,9 +82,9 @@ image_buffer s out = cond (has_room s.counts (length out)) (image_of s ++ drop (
 
 -- ---- the writer reads a settings block
 
--- what stands at the 24 places, each read by one form
+-- what stands at the places of all alarms, each read by one form
 unfoldable pub read_as : Form → List ℕ → List Alarm
-read_as form ws = placed (λ p. alarm_in form ws (alarm_at p)) 24 blanks
+read_as form ws = placed (λ p. alarm_in form ws (alarm_at p)) all_most blanks
 
 -- the image's length, or 13; 42 where the words are no settings block
 unfoldable pub write_of : List ℕ → ℕ → Result ℕ Refusal

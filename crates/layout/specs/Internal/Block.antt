@@ -1,10 +1,10 @@
--- The settings block, 292 words: the layout word, the counts, and 8 words an alarm for 36 places; where an alarm's words begin in each block.
-use Rattle.std.specs.Prelude.{ℕ, zero, suc, ◌+◌, ◌*◌, ◌<◌, ◌≡◌, Bool, ◌&&◌, List, [], ◌∷◌, ◌++◌, eqb, length, get_or, set, replicate}
-use Rattle.layout.specs.Internal.Sizes.{settings_size}
+-- The settings block: the layout word, the counts, and the alarms' words; where an alarm's words begin in each block.
+use Rattle.std.specs.Prelude.{ℕ, zero, suc, ◌+◌, ◌*◌, ◌-◌, ◌<◌, ◌≡◌, Bool, ◌&&◌, List, [], ◌∷◌, ◌++◌, eqb, length, get_or, set, replicate}
+use Rattle.layout.specs.Internal.Sizes.{places, settings_head, states_head, alarm_size, state_size, mark_size, settings_size}
 use Rattle.settings.specs.Refusals.{refusal}
 use Rattle.settings.specs.declared.refusals.Refusal.{Refusal}
 use Rattle.settings.specs.declared.refusals.Reason.TheVariants.{NoBank}
-use Rattle.settings.specs.Counts.{in_all, form_at}
+use Rattle.settings.specs.Counts.{all_most, in_all, form_at}
 use Rattle.settings.specs.Alarm.{blank, blanks}
 use Rattle.settings.specs.declared.counts.Counts.{Counts}
 use Rattle.settings.specs.declared.types.Alarm.{Alarm}
@@ -19,15 +19,15 @@ layout_word = 0x4D45494647555232
 
 -- where the words of the alarm at a place begin
 abbrev pub alarm_at : ℕ → ℕ
-alarm_at place = 4 + 8 * place
+alarm_at place = settings_head + alarm_size * place
 
--- and those of its state, 16 for each: 11, and room for more
+-- and those of its state, of which 11 are used
 abbrev pub state_at : ℕ → ℕ
-state_at place = 4 + 16 * place
+state_at place = states_head + state_size * place
 
 -- and its counts and stamps
 abbrev pub mark_at : ℕ → ℕ
-mark_at place = 25 * place
+mark_at place = mark_size * place
 
 -- the layout word, the counts, and room for a third one
 abbrev pub head_words : Counts → List ℕ
@@ -38,9 +38,9 @@ unfoldable pub alarms_words : List Alarm → List ℕ
 alarms_words [] = []
 alarms_words (a ∷ rest) = alarm_words a ++ alarms_words rest
 
--- the whole block: the head, the 24 places of settings, and 12 further places of 0
+-- the whole block: the head, the places of the alarms, and the further places of 0
 unfoldable pub settings_words : Settings → List ℕ
-settings_words s = head_words s.counts ++ (alarms_words s.alarms ++ replicate 96 0)
+settings_words s = head_words s.counts ++ (alarms_words s.alarms ++ replicate (alarm_size * (places - all_most)) 0)
 
 -- the words say the first n alarms, each read by its own form
 abbrev pub Says : List Alarm → ℕ → List ℕ → Type 0

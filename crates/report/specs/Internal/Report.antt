@@ -1,5 +1,6 @@
 -- The report of the alarm with a number.
 use Rattle.std.specs.Prelude.{ℕ, ◌-◌, ◌*◌, Bool, ◌&&◌, cond, leb, get_or, Ok}
+use Rattle.layout.specs.Internal.Block.{mark_at}
 use Rattle.settings.specs.Counts.{are_good, in_all}
 use Rattle.settings.specs.Alarm.{blank}
 use Rattle.settings.specs.declared.counts.Counts.{Counts}
@@ -22,8 +23,8 @@ report_at b place =
     record {
       reply = Ok tt;
       alarm = whole_of (get_or b.settings.alarms place blank) (get_or b.states place fresh_state) b.time;
-      resettime = get_or b.marks (25 * place) 0;
-      conditions = statuses_of (get_or b.settings.alarms place blank).kind b.marks (25 * place) (get_or b.states place fresh_state).flags;
+      resettime = get_or b.marks (mark_at place) 0;
+      conditions = statuses_of (get_or b.settings.alarms place blank).kind b.marks (mark_at place) (get_or b.states place fresh_state).flags;
     }
 
 unfoldable pub report_of : Bank → ℕ → AlarmReport

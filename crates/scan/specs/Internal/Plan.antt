@@ -2,7 +2,7 @@
 use Rattle.std.specs.Prelude.{ℕ, zero, suc, ◌+◌, List, [], ◌++◌, get_or, replicate, Result, Ok, Err}
 use Rattle.std.specs.Int.Count.{ones}
 use Rattle.layout.specs.Internal.Block.{placed}
-use Rattle.settings.specs.Counts.{in_all, form_at}
+use Rattle.settings.specs.Counts.{all_most, in_all, form_at}
 use Rattle.settings.specs.Alarm.{blank}
 use Rattle.settings.specs.declared.refusals.Refusal.{Refusal}
 use Rattle.settings.specs.declared.counts.Counts.{Counts}
@@ -47,7 +47,7 @@ unfoldable pub plan_of : List ℕ → Counts → List Alarm → List State → �
 plan_of rec counts alarms states time =
     record {
       states = states_after rec counts alarms states time;
-      events = words_after rec counts alarms states time (replicate 24 0);
+      events = words_after rec counts alarms states time (replicate all_most 0);
     }
 
 -- how many events the first n words stand for

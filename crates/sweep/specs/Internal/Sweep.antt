@@ -12,7 +12,7 @@ use Rattle.settings.specs.declared.types.Alarm.{Alarm}
 use Rattle.settings.specs.declared.types.Form.{Form}
 use Rattle.settings.specs.declared.types.Form.TheVariants.{Digital, Analog}
 use Rattle.layout.specs.Internal.Words.{alarm_in}
-use Rattle.layout.specs.Internal.Block.{alarm_at, counts_in, count_in, alarm_on, state_at}
+use Rattle.layout.specs.Internal.Block.{alarm_at, counts_in, count_in, alarm_on, state_at, mark_at}
 use Rattle.scan_record.specs.Part.{time_of, reading_at, word_at, offset_of, record_size}
 use Rattle.event.specs.Event.{Event, log_bytes}
 use Rattle.event.specs.Internal.Bits.{events_of}
@@ -27,7 +27,7 @@ alarm_events number a s word time = events_of number a.kind (bit s.flags suppres
 
 -- the counts and stamps after it of the alarm at a place, in the words of all
 abbrev pub alarm_marks : ℕ → Alarm → State → ℕ → ℕ → List ℕ → List ℕ
-alarm_marks p a s word time marks = mark_alarm (ack_required a.kind a.flags) (starts_of s) word time (25 * p) marks
+alarm_marks p a s word time marks = mark_alarm (ack_required a.kind a.flags) (starts_of s) word time (mark_at p) marks
 
 -- the alarms from a place on have a form
 abbrev pub HaveForm : Counts → ℕ → ℕ → Form → Type 0
