@@ -76,7 +76,7 @@ fn put_event(out: &mut [u8], at: usize, source: &Source<'_>, bit: u32)
 }
 
 // Writes the events that an alarm's event word stands for, in order, and answers the offset past them. Few bits of a word are set, so it
-// goes from one of these to the next.
+// goes from one of these to the next; a `while`, since std has no iterator over them.
 #[inline(always)]
 pub fn put_events(out: &mut [u8], start: usize, source: &Source<'_>, events: u32) -> usize
     requires { start + length (source_log source.now word_bits 0 events) ≤ length out.old }

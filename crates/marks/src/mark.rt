@@ -34,8 +34,9 @@ pub fn required_in(settings: &[u64; ALARM_WORDS], form: Form) -> bool
     }
 }
 
-// Marks what a scan did to those of the six conditions that have events, or to all six if the counts are reset. A struct of what both
-// functions take would be made for one call: each condition gets a `Change` of its own.
+// Marks what a scan did to those of the six conditions that have events, or to all six if the counts are reset. Few have any, so it goes
+// from one of these to the next; a `while`, since std has no iterator over set bits, and `as` widens. A struct of what both functions take
+// would be made for one call: each condition gets a `Change` of its own.
 fn mark_conditions(
     marks: &mut [u64; MARK_WORDS],
     required: bool,
