@@ -76,7 +76,7 @@ extern "C" {
 
 /*
  * Bytes of stack, measured on a full bank and rounded up (host/c/stack.c measures them). A scan whose event buffer might be
- * too short runs on copies and uses more; so does a replay, once less than that is left of its buffer.
+ * too short runs on copies, and uses what SCAN_SHORT says. REPLAY is of the longer of the two ways.
  */
 #define MEIFGUR_LOAD_STACK 6144u
 #define MEIFGUR_SCAN_STACK 1024u
