@@ -25,7 +25,8 @@ use Rattle.level.proofs.Laws.{rate-stays}
 use Rattle.condition.specs.Internal.Mark.{Marks, marks_after}
 use Rattle.condition.specs.Command.{acks, faults}
 use Rattle.state.specs.Internal.Held.{Six, HH, H, L, LL, ROCPos, ROCNeg, Side, High, Low, of_six, AnalogHeld}
-use Rattle.analog.specs.Internal.Analog.{analog_required, analog_enabled, analog_sample, side_met, analog_ready, analog_told, analog_after, cell_events, analog_events}
+use Rattle.analog.specs.Internal.Analog.{analog_required, analog_enabled, analog_sample, side_met, analog_ready, analog_told}
+use Rattle.analog.specs.Internal.Analog.{analog_after, cell_events, analog_events}
 use Rattle.alarm_history.specs.Scans.{Scan, previous, enabled, count_reset, disabled_in, suppressed_in}
 use Rattle.alarm_history.specs.Sample.{sampled_at, sample_in, rate_in}
 use Rattle.alarm_history.specs.Facts.{Rules, analog_rules, rules_by, rules_of, run, facts}

@@ -39,7 +39,8 @@ module _ (n : ℕ) (a : Alarm) (s : Scan) (past : List Scan) where
       (event k ≡ condition_event n a s past c 6) × (event (suc k) ≡ condition_event n a s past c 7) × (event (suc (suc k)) ≡ condition_event n a s past c 8)
       × Placed (suc (suc (suc k))) cs
 
-  conditions-log : (k : ℕ) (cs : List Condition) → Placed k cs → from k (foldr (condition_bits (rules_of a) s past) [] cs) ≡ foldr (condition_log n a s past) [] cs
+  conditions-log : (k : ℕ) (cs : List Condition) → Placed k cs
+      → from k (foldr (condition_bits (rules_of a) s past) [] cs) ≡ foldr (condition_log n a s past) [] cs
   unfolding events_from
   conditions-log k [] p = refl
   conditions-log k (c ∷ cs) p = rw (p.0, p.1, p.2, conditions-log (suc (suc (suc k))) cs p.3)

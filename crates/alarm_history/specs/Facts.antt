@@ -24,23 +24,21 @@ pub record Rules : Type 0 where
 
 -- a digital alarm goes by its input, the latch and resets
 abbrev pub digital_rules : Alarm → Rules
-digital_rules a =
-    record {
-      duration = a.duration;
-      required = ack_required a.kind a.flags;
-      met = λ c s past. bit_met a.flags s.reading;
-      frees = λ c s past. bit_frees a.flags (resets s.word (previous past));
-    }
+digital_rules a = record {
+  duration = a.duration;
+  required = ack_required a.kind a.flags;
+  met = λ c s past. bit_met a.flags s.reading;
+  frees = λ c s past. bit_frees a.flags (resets s.word (previous past));
+}
 
 -- an analog one by the reading and the rate
 abbrev pub analog_rules : {X : Type 0} → Numbers X → AnalogOf X → Bool → Rules
-analog_rules n a required =
-    record {
-      duration = a.duration;
-      required = required;
-      met = λ c s past. met n a c (seen n (s ∷ past)) (rate_in n a (s ∷ past));
-      frees = λ c s past. frees n a c (seen n (s ∷ past));
-    }
+analog_rules n a required = record {
+  duration = a.duration;
+  required = required;
+  met = λ c s past. met n a c (seen n (s ∷ past)) (rate_in n a (s ∷ past));
+  frees = λ c s past. frees n a c (seen n (s ∷ past));
+}
 
 abbrev pub rules_by : Kind → Alarm → Rules
 rules_by (Digital severity) a = digital_rules a
@@ -56,15 +54,14 @@ module _ (r : Rules) where
   run c s past = enabled s past && (r.met c s past || side_has c (λ d. r.met d s past))
 
   abbrev pub facts : Facts Scan Condition
-  facts =
-      record {
-        enabled = enabled;
-        met = r.met;
-        cleared = λ c s past. not (r.met c s past) && r.frees c s past;
-        lasted = λ c s past. leb r.duration (s.time - row_start (λ x. x.time) (run c) (s ∷ past));
-        beside = side_has;
-        rate = is_rate;
-        ack = λ c s past. acks s.word (previous past) c;
-        reset = count_reset;
-        required = r.required;
-      }
+  facts = record {
+    enabled = enabled;
+    met = r.met;
+    cleared = λ c s past. not (r.met c s past) && r.frees c s past;
+    lasted = λ c s past. leb r.duration (s.time - row_start (λ x. x.time) (run c) (s ∷ past));
+    beside = side_has;
+    rate = is_rate;
+    ack = λ c s past. acks s.word (previous past) c;
+    reset = count_reset;
+    required = r.required;
+  }

@@ -12,8 +12,8 @@ use Rattle.wire.proofs.WordLaws.{bit-shift}
 use Rattle.wire.proofs.MaskLaws.{Thirds, every, same, of_word}
 use Rattle.wire.specs.Internal.Places.{first_condition, condition_unit, condition_bit, six_bits}
 use Rattle.condition.specs.Internal.Outcome.{outcome_bits}
-use Rattle.six.specs.declared.decide.Cells.{Cells}
-use Rattle.six.specs.Internal.Cells.{cell, six, cells_of}
+use Rattle.decision.specs.declared.decide.Cells.{Cells}
+use Rattle.decision.specs.Internal.Cells.{cell, six, cells_of}
 use Rattle.analog.specs.Internal.Packed.{SameReady, SameFrees}
 use Rattle.analog.proofs.Rows.{lacking, all-unset}
 

@@ -10,7 +10,7 @@ use Rattle.wire.proofs.WordLaws.{word-halves, word-join}
 use Rattle.wire.proofs.MaskLaws.{bit-spread}
 use Rattle.wire.specs.Internal.Places.{free_flags, free_events, condition_unit, condition_bit}
 use Rattle.condition.specs.Internal.Outcome.{outcome_bits, ack_bits}
-use Rattle.six.specs.Internal.Cells.{cell, six, cells_of}
+use Rattle.decision.specs.Internal.Cells.{cell, six, cells_of}
 use native.Mathlib.Omega.{arith}
 use Rattle.settings.specs.Numbers.{Numbers, AnalogOf}
 use Rattle.settings.specs.declared.types.Reading.{Reading}
@@ -25,7 +25,14 @@ use Rattle.analog.specs.Internal.Packed.{ready_bits}
 cell-lists : (flags : ℕ) (enabled required : Bool) (met frees ready acks : List Bool) (k : ℕ)
     → cell flags enabled (word_of (spread met)) (word_of (spread frees)) (word_of (spread ready)) (word_of (spread acks)) required k
     ≡ outcome_bits
-    (record { enabled = enabled; met = get_or met k false; frees = get_or frees k false; ready = get_or ready k false; ack = get_or acks k false; required = required })
+    (record {
+      enabled = enabled;
+      met = get_or met k false;
+      frees = get_or frees k false;
+      ready = get_or ready k false;
+      ack = get_or acks k false;
+      required = required;
+    })
     (bit flags (condition_bit k 0)) (bit flags (condition_bit k 1))
 cell-lists flags enabled required met frees ready acks k = rw (bit-spread met k, bit-spread frees k, bit-spread ready k, bit-spread acks k)
 

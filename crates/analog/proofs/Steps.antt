@@ -10,8 +10,8 @@ use Rattle.wire.proofs.WordLaws.{word_low}
 use Rattle.wire.proofs.MaskLaws.{bit-spread}
 use Rattle.wire.specs.Internal.Places.{condition_unit}
 use Rattle.condition.specs.Internal.Outcome.{ack_bits}
-use Rattle.six.specs.declared.decide.Cells.{Cells}
-use Rattle.six.specs.Internal.Cells.{six, cells_of}
+use Rattle.decision.specs.declared.decide.Cells.{Cells}
+use Rattle.decision.specs.Internal.Cells.{six, cells_of}
 use native.Mathlib.Omega.{arith}
 use Rattle.settings.specs.Numbers.{AnalogOf, reals, value_of, new_rate, real_of, analog_reals}
 use Rattle.settings.specs.declared.types.Alarm.{Alarm}

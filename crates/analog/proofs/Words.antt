@@ -40,4 +40,5 @@ rest-stored ws at sample sampled =
     (sym
     (ap (λ (m : List ℕ). sets m (suc at) (sample ∷ sampled ∷ (copied ws (suc (suc (suc at))) 8 ++ []))) (set-get_or ws at 0)
     ∙ stay 8 ws l (suc (suc (suc at))) []
-    (λ k g. get_or-set_other (set ws (suc at) sample) (suc (suc at)) k sampled 0 (λ e. omega arith) ∙ get_or-set_other ws (suc at) k sample 0 (λ e. omega arith))))
+    (λ k g. get_or-set_other (set ws (suc at) sample) (suc (suc at)) k sampled 0 (λ e. omega arith)
+    ∙ get_or-set_other ws (suc at) k sample 0 (λ e. omega arith))))

@@ -6,7 +6,7 @@ use wire::bits::is_set;
 use wire::places::{AT_H, AT_HH, AT_L, AT_LL};
 
 // Whether one of a side's two levels is set.
-#[derive(Clone, Copy, Debug, PartialEq, Eq)]
+#[derive(Clone, Copy)]
 pub struct Sides {
     pub high: bool,
     pub low: bool,

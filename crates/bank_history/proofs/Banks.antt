@@ -29,7 +29,8 @@ use Rattle.std.proofs.Common.{Result, Ok, Err}
 use Rattle.settings.specs.declared.refusals.Refusal.{Refusal}
 use Rattle.reader.specs.Internal.Sound.{SoundSettings}
 use Rattle.reader.proofs.Sound.{digital-sound, analog-sound}
-use Rattle.state.specs.Internal.Held.{fresh_state, look_digital, real_patterns, look_analog, run_of, cell_of, Six, HH, H, L, LL, ROCPos, ROCNeg, Side, High, Low}
+use Rattle.state.specs.Internal.Held.{fresh_state, look_digital, real_patterns, look_analog, run_of, cell_of}
+use Rattle.state.specs.Internal.Held.{Six, HH, H, L, LL, ROCPos, ROCNeg, Side, High, Low}
 use Rattle.state.specs.Internal.Held.{place}
 use Rattle.digital.specs.Internal.Digital.{digital_step}
 use Rattle.analog.specs.Internal.Analog.{analog_step}

@@ -85,7 +85,8 @@ entry-most : (e : Result Entry Refusal) (a : Alarm) (s : State) (time : ℕ) →
 entry-most (Ok e) a s time = step-most a.kind a s e.reading e.word time
 entry-most (Err r) a s time = omega (arith, no_ones)
 
-digital-entry-most : (e : Result Entry Refusal) (a : Alarm) (s : State) (time : ℕ) {severity : ℕ} → a.kind ≡ Digital severity → ones (step_entry e a s time).events ≤ 5
+digital-entry-most : (e : Result Entry Refusal) (a : Alarm) (s : State) (time : ℕ) {severity : ℕ} → a.kind ≡ Digital severity
+    → ones (step_entry e a s time).events ≤ 5
 digital-entry-most (Ok e) a s time {severity} k =
     subst (λ (q : Kind). ones (step_kind q a s e.reading e.word time).events ≤ 5) (sym k) (digital-step-most severity a s e.reading e.word time)
 digital-entry-most (Err r) a s time k = omega (arith, no_ones)

@@ -39,7 +39,8 @@ module _ (w : Words) (rec : List ℕ) (e : check_of (bank_in w) rec ≡ Ok tt) (
   -- by whether the buffer is too short
   abbrev scanned : Bool → Scanned
   scanned t =
-      cond t (refused_scan (bank_in w) (refusal EventsTooLong 0)) (record { bank = bank_after (bank_in w) rec; answer = Ok (length (events_in (bank_in w) rec)) })
+      cond t (refused_scan (bank_in w) (refusal EventsTooLong 0))
+      (record { bank = bank_after (bank_in w) rec; answer = Ok (length (events_in (bank_in w) rec)) })
 
   by : (t : Bool) → bank_in (if_accepted (scanned t).answer (words_after w rec) w) ≡ (scanned t).bank
   by true = refl

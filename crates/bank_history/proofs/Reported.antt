@@ -25,7 +25,8 @@ use Rattle.history.specs.Internal.Row.{begun}
 use Rattle.history.proofs.Condition.{kept-alarm, kept-unacked}
 use Rattle.settings.specs.Severity.{severity_invalid}
 use Rattle.condition.specs.Internal.Mark.{Marks}
-use Rattle.state.specs.Internal.Held.{Six, HH, H, L, LL, ROCPos, ROCNeg, of_six, place, DigitalHeld, look_digital, AnalogHeld, Patterns, real_patterns, look_analog}
+use Rattle.state.specs.Internal.Held.{Six, HH, H, L, LL, ROCPos, ROCNeg, of_six, place}
+use Rattle.state.specs.Internal.Held.{DigitalHeld, look_digital, AnalogHeld, Patterns, real_patterns, look_analog}
 use Rattle.digital.specs.Internal.Digital.{digital_required}
 use Rattle.analog.specs.Internal.Analog.{analog_required}
 use Rattle.state.specs.Internal.State.{State}
@@ -52,7 +53,8 @@ use Rattle.bank_history.proofs.Views.{DigitalView, AnalogView}
 use Rattle.bank_history.proofs.Banks.{Kept, state_at, digital-kind, analog-kind}
 
 -- the last scan of an alarm is the last record
-last_of : (f : List ℕ → Scan) → ((rec : List ℕ) → last_accepted (rec ∷ []) ≡ (f rec).time) → (past : List (List ℕ)) → last_accepted past ≡ last_time (map f past)
+last_of : (f : List ℕ → Scan) → ((rec : List ℕ) → last_accepted (rec ∷ []) ≡ (f rec).time) → (past : List (List ℕ))
+    → last_accepted past ≡ last_time (map f past)
 last_of f h [] = refl
 last_of f h (rec ∷ past) = h rec
 

@@ -41,7 +41,7 @@ use Rattle.report.specs.declared.report.AlarmReport.{AlarmReport}
 use Rattle.bank_history.specs.Calls.{Call}
 use Rattle.bank_history.specs.Answers.{alarm_at, scans_at, last_accepted, answer_to, buffer_after}
 use Rattle.bank_history.specs.Report.{status_of, alarm_report, report_after}
-use Rattle.bank_history.specs.Statements.{Good, settings, words, records, Replies, EveryReply, DemandThree, TwoReceivers}
+use Rattle.bank_history.specs.Statements.{Good, words, records, Replies, EveryReply, DemandThree, TwoReceivers}
 use Rattle.bank_history.proofs.Banks.{Kept, fresh_kept}
 use Rattle.bank_history.proofs.Lists.{scan-said, buffer-said, bank_after_all, kept-after}
 use Rattle.bank_history.proofs.Lent.{answer-on, buffer-on, report-on, write-on, written_on, lent-bank}
@@ -68,7 +68,7 @@ not-not false = refl
 
 module _ (image : List ℕ) (calls : List Call) (good : Good image) where
   abbrev s : Settings
-  s = settings image
+  s = settings_of image
 
   abbrev b : Bank
   b = bank_after_all (load_of image) calls

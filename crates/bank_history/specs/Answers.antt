@@ -9,7 +9,7 @@ use Rattle.settings.specs.declared.refusals.Reason.TheVariants.{EventsTooLong}
 use Rattle.settings.specs.declared.types.Alarm.{Alarm}
 use Rattle.settings.specs.declared.types.Form.{Form}
 use Rattle.settings.specs.declared.types.Settings.{Settings}
-use Rattle.event.specs.Event.{Event, log_bytes}
+use Rattle.event.specs.Event.{Event, event_size, log_bytes}
 use Rattle.scan_record.specs.Part.{time_of, reading_at, word_at, offset_of}
 use Rattle.scan_record.specs.Check.{check_record}
 use Rattle.alarm_history.specs.Scans.{Scan}
@@ -44,7 +44,7 @@ last_accepted (rec ∷ past) = time_of rec
 
 -- after the check: 12 where the buffer is too short for 16 bytes an event, or the number of events
 abbrev pub with_room : ℕ → ℕ → Result ℕ Refusal
-with_room room events = cond (ltb room (16 * events)) (Err (refusal EventsTooLong 0)) (Ok events)
+with_room room events = cond (ltb room (event_size * events)) (Err (refusal EventsTooLong 0)) (Ok events)
 
 -- the answer to a record, given the length of the lent buffer: the first of 7 to 12, or the number of events
 abbrev pub answer_to : Settings → List (List ℕ) → List ℕ → ℕ → Result ℕ Refusal

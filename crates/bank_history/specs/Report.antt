@@ -39,33 +39,31 @@ low_run (Digital severity) r scans = 0
 low_run (Analog limits severities period) r scans = elapsed_in r L scans
 
 abbrev pub status_of : Rules → List Scan → Condition → Status
-status_of r scans c =
-    record {
-      alarm = in_alarm (facts r) scans c;
-      acked = not (unacknowledged (facts r) scans c);
-      count = count (facts r) scans c;
-      alarmtime = alarm_stamp r c scans;
-      acktime = ack_stamp r c scans;
-      returntime = return_stamp r c scans;
-    }
+status_of r scans c = record {
+  alarm = in_alarm (facts r) scans c;
+  acked = not (unacknowledged (facts r) scans c);
+  count = count (facts r) scans c;
+  alarmtime = alarm_stamp r c scans;
+  acktime = ack_stamp r c scans;
+  returntime = return_stamp r c scans;
+}
 
 -- the report has room for six conditions
 abbrev pub alarm_report : Alarm → List Scan → AlarmReport
-alarm_report a scans =
-    record {
-      reply = Ok tt;
-      alarm = record {
-        enabled = not (disabled_in scans);
-        suppressed = suppressed_in scans;
-        infaulted = faulted_in scans;
-        severityinv = severity_inv a.kind;
-        rate = rate_of a.kind a scans;
-        high = high_run a.kind (rules_of a) scans;
-        low = low_run a.kind (rules_of a) scans;
-      };
-      resettime = reset_stamp scans;
-      conditions = take 6 (map (status_of (rules_of a) scans) (conditions_of a.kind) ++ no_statuses);
-    }
+alarm_report a scans = record {
+  reply = Ok tt;
+  alarm = record {
+    enabled = not (disabled_in scans);
+    suppressed = suppressed_in scans;
+    infaulted = faulted_in scans;
+    severityinv = severity_inv a.kind;
+    rate = rate_of a.kind a scans;
+    high = high_run a.kind (rules_of a) scans;
+    low = low_run a.kind (rules_of a) scans;
+  };
+  resettime = reset_stamp scans;
+  conditions = take 6 (map (status_of (rules_of a) scans) (conditions_of a.kind) ++ no_statuses);
+}
 
 -- of alarm n, from 1; 14 where there is none
 abbrev pub report_after : Settings → List (List ℕ) → ℕ → AlarmReport

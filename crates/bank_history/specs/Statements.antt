@@ -6,8 +6,8 @@ use Rattle.settings.specs.Condition.{In, conditions_of}
 use Rattle.std.specs.Result.{IsOk, is_ok}
 use Rattle.settings.specs.Refusals.{refusal}
 use Rattle.settings.specs.declared.refusals.Reason.TheVariants.{ImageTooLong}
-use Rattle.settings.specs.declared.types.Settings.{Settings}
 use Rattle.history.specs.Words.{Demand3}
+use Rattle.event.specs.Event.{events_enough}
 use Rattle.reader.specs.Read.{read_of, settings_of}
 use Rattle.image.specs.Internal.Write.{write_of, write_buffer}
 use Rattle.scan_record.specs.Check.{check_record}
@@ -25,9 +25,6 @@ use Rattle.bank_history.specs.Report.{report_after}
 abbrev pub Good : List ℕ → Type 0
 Good image = T (are_bytes image) × IsOk (read_of image)
 
-abbrev pub settings : List ℕ → Settings
-settings image = settings_of image
-
 module _ (image : List ℕ) (calls : List Call) where
   -- the words of the bank after the calls
   abbrev pub words : Words
@@ -35,20 +32,20 @@ module _ (image : List ℕ) (calls : List Call) where
 
   -- the records accepted in the calls
   abbrev pub records : List (List ℕ)
-  records = accepted (settings image) calls []
+  records = accepted (settings_of image) calls []
 
   -- what one more call then gives
   pub record Replies : Type 0 where
     -- a scan: it is not refused exactly where none of 7 to 12 applies
-    pub accepting : (rec : List ℕ) (room : ℕ) → is_ok (answer_of words rec room) ≡ accepts (settings image) records rec room
+    pub accepting : (rec : List ℕ) (room : ℕ) → is_ok (answer_of words rec room) ≡ accepts (settings_of image) records rec room
     -- its answer, and every byte of its event buffer
-    pub answer : (rec : List ℕ) (room : ℕ) → answer_of words rec room ≡ answer_to (settings image) records rec room
-    pub buffer : (rec out : List ℕ) → buffer_of words rec out ≡ buffer_after (settings image) records rec out
+    pub answer : (rec : List ℕ) (room : ℕ) → answer_of words rec room ≡ answer_to (settings_of image) records rec room
+    pub buffer : (rec out : List ℕ) → buffer_of words rec out ≡ buffer_after (settings_of image) records rec out
     -- with 3,840 bytes only 7 to 11 refuse
-    pub suffices : (rec : List ℕ) (room : ℕ) → check_record (settings image).counts (last_accepted records) rec ≡ Ok tt → 3840 ≤ room
+    pub suffices : (rec : List ℕ) (room : ℕ) → check_record (settings_of image).counts (last_accepted records) rec ≡ Ok tt → events_enough ≤ room
         → is_ok (answer_of words rec room) ≡ true
     -- a report
-    pub report : (n : ℕ) → report_in words n ≡ report_after (settings image) records n
+    pub report : (n : ℕ) → report_in words n ≡ report_after (settings_of image) records n
     -- the writer: the image that was read, or 13
     pub write : (room : ℕ) → write_of words.settings room ≡ cond (leb (length image) room) (Ok (length image)) (Err (refusal ImageTooLong 0))
     pub image-written : (out : List ℕ) → write_buffer words.settings out ≡ cond (leb (length image) (length out)) (image ++ drop (length image) out) out
@@ -61,11 +58,12 @@ EveryReply = (image : List ℕ) (calls : List Call) → Good image → Replies i
 abbrev pub DemandThree : Type 0
 DemandThree =
     (image : List ℕ) (calls : List Call) (n i : ℕ) → Good image
-    → 1 ≤ n → n ≤ in_all (settings image).counts
-    → i < length (conditions_of (alarm_at (settings image) (n - 1)).kind)
-    → let a = alarm_at (settings image) (n - 1) in
+    → 1 ≤ n → n ≤ in_all (settings_of image).counts
+    → i < length (conditions_of (alarm_at (settings_of image) (n - 1)).kind)
+    → let a = alarm_at (settings_of image) (n - 1) in
     let said = get_or (report_in (words image calls) n).conditions i no_status in
-    Demand3 (facts (rules_of a)) said.alarm (not said.acked) said.count (scans_at (settings image) (n - 1) (records image calls)) (get_or (conditions_of a.kind) i In)
+    Demand3 (facts (rules_of a)) said.alarm (not said.acked) said.count (scans_at (settings_of image) (n - 1) (records image calls))
+    (get_or (conditions_of a.kind) i In)
 
 -- two receivers whose accepted records are the same report every alarm the same, whatever was refused and whatever buffers were lent
 abbrev pub TwoReceivers : Type 0

@@ -7,7 +7,7 @@ use crate::words::Words;
 use std::alloc::Global;
 use text::pieces::LONGEST_LINE;
 
-#[derive(Debug, Drop, PartialEq, Eq)]
+#[derive(Drop)]
 pub enum Call {
     Settings { image: Vec<u8> },
     Scan { room: usize, record: Vec<u8> },
@@ -52,6 +52,3 @@ pub fn parse(alloc: Global, line: &[u8]) -> Result<Option<Call>, BadLine>
     words.end()?;
     Ok(Some(call))
 }
-
-#[cfg(test)]
-mod tests;

@@ -6,7 +6,7 @@ use thiserror::Error;
 // The longest buffer that a line may name, in bytes.
 pub const MOST_ROOM: usize = 65_536;
 
-#[derive(Debug, Drop, PartialEq, Eq, Error)]
+#[derive(Debug, Drop, Error)]
 pub enum BadLine {
     #[error("bad line: over {most} characters", most = LONGEST_LINE)]
     TooLong,
@@ -18,7 +18,7 @@ pub enum BadLine {
     Memory(#[from(alloc)] AllocError),
 }
 
-#[derive(Clone, Copy, Debug, PartialEq, Eq, Error)]
+#[derive(Clone, Copy, Debug, Error)]
 pub enum Fault {
     #[error("no such call")]
     NoCall,

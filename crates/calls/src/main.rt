@@ -30,6 +30,3 @@ fn main(rt: HostRuntime) {
     let outcome = answer_lines(rt.alloc(), rt.stdin(), io::writer(&rt));
     tell(&rt, outcome);
 }
-
-#[cfg(test)]
-mod tests;

@@ -8,7 +8,7 @@ use crate::bits::{OPER_ACK, OPER_ACK_HH, OPER_RESET, PROG_ACK, PROG_ACK_HH, PROG
 use wire::bits::{is_set, only_in, spread_of};
 
 // An alarm's command word in a scan, and the one of the last accepted scan before it.
-#[derive(Clone, Copy, Debug, PartialEq, Eq)]
+#[derive(Clone, Copy)]
 pub struct Command {
     pub word: u32,
     pub previous: u32,

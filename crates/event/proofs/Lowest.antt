@@ -69,7 +69,8 @@ module _ (alarm : ℕ) (kind : Kind) (suppressed : Bool) (time : ℕ) where
   odd-events n k word e = rw e
 
   -- those of a word whose lowest bit is clear, from half of it
-  twice-events : (n k word half : ℕ) → word ≡ half * 2 → events_of alarm kind suppressed time n (suc k) half ≡ events_of alarm kind suppressed time (suc n) k word
+  twice-events : (n k word half : ℕ) → word ≡ half * 2
+      → events_of alarm kind suppressed time n (suc k) half ≡ events_of alarm kind suppressed time (suc n) k word
   twice-events n k word half e =
       let h : word / 2 ≡ half = omega arith in
       sym (even-events n k word (omega arith) ∙ rw h)
@@ -88,7 +89,8 @@ module _ (alarm : ℕ) (kind : Kind) (suppressed : Bool) (time : ℕ) where
             even-events n k word z
             ∙ first-event w n (suc k) (word / 2) (omega arith) (omega arith) (omega (arith, pow-succ' 2 n))
             ∙ ap₂ (λ (i : ℕ) (es : List Event). event_at alarm kind suppressed time i ∷ es) (omega (arith, zeros-even w word z))
-            (twice-events n k (bit_and word (word - 1)) (bit_and (word / 2) (word / 2 - 1)) (omega (arith, and_step word (word - 1), ap (bit_and (word / 2)) h)))
+            (twice-events n k (bit_and word (word - 1)) (bit_and (word / 2) (word / 2 - 1))
+            (omega (arith, and_step word (word - 1), ap (bit_and (word / 2)) h)))
         | inr l ↦
             let o : word % 2 ≡ 1 = omega arith in
             let h : (word - 1) / 2 ≡ word / 2 = omega arith in

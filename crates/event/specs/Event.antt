@@ -13,6 +13,14 @@ pub record Event : Type 0 where
   pub severity : ℕ
   pub time : ℕ
 
+-- how many bytes a record has
+abbrev pub event_size : ℕ
+event_size = 16
+
+-- so many bytes suffice for the events of every scan
+abbrev pub events_enough : ℕ
+events_enough = 3840
+
 -- alarm, condition, kind, suppressed, one byte each; acting severity in two, two zero bytes, the scan's time
 unfoldable pub event_bytes : Event → List ℕ
 event_bytes e = e.alarm ∷ e.condition ∷ e.kind ∷ cond e.suppressed 1 0 ∷ (bytes 2 e.severity ++ (0 ∷ 0 ∷ bytes 8 e.time))

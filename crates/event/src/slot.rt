@@ -15,7 +15,7 @@ const SEVERITIES: usize = 5;
 
 // The number of the condition, 0 of a digital alarm and from 1 on of an analog one, and the severity that is stored for it. A number and no
 // enum: it is a byte of the record, counted from the place.
-#[derive(Clone, Copy, Debug, PartialEq, Eq)]
+#[derive(Clone, Copy)]
 pub struct Slot {
     pub condition: u8,
     pub severity: u32,

@@ -14,6 +14,7 @@ use crate::slot::slot_at;
 use crate::source::Source;
 use settings::severity::acting_severity;
 use wire::number::LittleEndian;
+use wire::places::CONDITION_BITS;
 
 // Bytes of a record.
 pub const EVENT_SIZE: usize = 16;
@@ -30,13 +31,14 @@ pub const SEVERITY: u64 = 0x1_0000_0000;
 // The condition of an event of the whole alarm. A number and no enum: the others are counted, one from place to place.
 const WHOLE_ALARM: u8 = 7;
 
-// The bits of the whole alarm, and of a condition.
+// The bits of the whole alarm.
 const WHOLE_BITS: u32 = 9;
 
-const CONDITION_BITS: u32 = 3;
+// How many conditions an alarm has at most.
+const MOST_CONDITIONS: u32 = 6;
 
-// What a one counts past the bits of an event word, those of the whole alarm and of six conditions.
-const PAST_BITS: u32 = 1 << (WHOLE_BITS + 6 * CONDITION_BITS);
+// What a one counts past the bits of an event word, those of the whole alarm and of its conditions.
+const PAST_BITS: u32 = 1 << (WHOLE_BITS + MOST_CONDITIONS * CONDITION_BITS);
 
 // The eight bytes in front of a record's time. `as` takes the number of an enum. That a severity fits two bytes is said for the caller's proof.
 fn head(source: &Source<'_>, condition: u8, kind: EventKind, severity: u16) -> u64

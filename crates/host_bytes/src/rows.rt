@@ -13,7 +13,7 @@ const ROW_SIZE: usize = 32;
 pub const REPORT_SIZE: usize = 7 * ROW_SIZE;
 
 // Four flags, a number of four bytes, three times of eight. `number` is a count or a REAL's pattern, four bytes of a report, and no refusal.
-#[derive(Clone, Copy, Debug, PartialEq, Eq)]
+#[derive(Clone, Copy)]
 pub struct Row {
     pub flags: [bool; 4],
     pub number: u32,

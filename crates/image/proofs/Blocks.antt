@@ -54,7 +54,8 @@ slice-same xs ys first end h k same =
 
 module _ (ws : List ℕ) (most : count_in ws ≤ 24) where
   -- the settings' alarm at a place, of the form that the place has
-  settings-at : (form : Form) (p : ℕ) → p < count_in ws → form_at (counts_in ws) p ≡ form → get_or (read_as form ws) p blank ≡ get_or (settings_in ws).alarms p blank
+  settings-at : (form : Form) (p : ℕ) → p < count_in ws → form_at (counts_in ws) p ≡ form
+      → get_or (read_as form ws) p blank ≡ get_or (settings_in ws).alarms p blank
   unfolding settings_in
   settings-at form p h e =
       read_at form ws p (omega arith) ∙ ap (λ (f : Form). alarm_in f ws (alarm_at p)) (sym e)

@@ -48,7 +48,8 @@ module _ (image : List ℕ) (b : T (are_bytes image)) (at : ℕ) where
 
   -- the words of an analog record: each REAL's pattern is the number that it was read from
   analog-words : at + size_of AnalogForm ≤ length image → BoundedReals (limits_at image at)
-      → severity_words (severities_at image at) ++ (limit_words (limits_at image at) ++ (number image (word_place at 13) 4 ∷ number image (word_place at 14) 4 ∷ []))
+      → severity_words (severities_at image at) ++ (limit_words (limits_at image at)
+      ++ (number image (word_place at 13) 4 ∷ number image (word_place at 14) 4 ∷ []))
       ≡ words_at image (word_place at 0) 15
   unfolding severities_at limits_at words_at
   analog-words h g =

@@ -20,7 +20,8 @@ use Rattle.settings.specs.declared.types.Severities.{Severities}
 use Rattle.settings.specs.declared.types.Settings.{Settings}
 use Rattle.settings.specs.declared.types.Form.{Form}
 use Rattle.settings.specs.declared.types.Form.TheVariants.{Digital as DigitalForm, Analog as AnalogForm}
-use Rattle.layout.specs.Internal.Words.{lower_of, upper_of, pair_of, lower_real, upper_real, reals_of, limits_in, severities_in, alarm_in, digital_of, analog_of}
+use Rattle.layout.specs.Internal.Words.{lower_of, upper_of, pair_of, lower_real, upper_real, reals_of}
+use Rattle.layout.specs.Internal.Words.{limits_in, severities_in, alarm_in, digital_of, analog_of}
 use Rattle.layout.specs.Internal.Words.{digital_words, analog_words, alarm_words}
 use Rattle.layout.specs.Internal.Block.{alarm_at, head_words, alarms_words, settings_words, placed, alarm_on, count_in, settings_in, is_block}
 use Rattle.layout.proofs.Laws.{alarm-same, length-alarm, length-alarms, length-settings, length-placed, placed_below, placed-above}

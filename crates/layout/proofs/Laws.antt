@@ -72,7 +72,8 @@ pub alarm-below : (form : Form) (ws : List ℕ) (i : ℕ) (vs : List ℕ) (at : 
 alarm-below form ws i vs at h = alarm-same ws (sets ws i vs) at at (λ k m. get_or-below ws i vs (at + k) 0 (omega arith)) form
 
 -- eight words that were stored say what they say by themselves
-pub alarm-stored : (form : Form) (ws : List ℕ) (at : ℕ) (vs : List ℕ) → at + 8 ≤ length ws → length vs ≡ 8 → alarm_in form (sets ws at vs) at ≡ alarm_in form vs 0
+pub alarm-stored : (form : Form) (ws : List ℕ) (at : ℕ) (vs : List ℕ) → at + 8 ≤ length ws → length vs ≡ 8
+    → alarm_in form (sets ws at vs) at ≡ alarm_in form vs 0
 alarm-stored form ws at vs h n =
     alarm-same vs (sets ws at vs) 0 at (λ k m. get_or-stored ws at vs k 0 (omega arith) (omega arith) ∙ rw zero-add) form
 

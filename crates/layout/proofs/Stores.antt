@@ -11,7 +11,8 @@ use Rattle.settings.specs.declared.types.Alarm.{Alarm}
 use Rattle.settings.specs.declared.types.Limits.{Limits}
 use Rattle.settings.specs.declared.types.Severities.{Severities}
 use Rattle.settings.specs.declared.types.Form.TheVariants.{Digital as DigitalForm, Analog as AnalogForm}
-use Rattle.layout.specs.Internal.Words.{lower_of, upper_of, pair_of, lower_real, upper_real, reals_of, limits_in, severities_in, alarm_in, digital_of, analog_of}
+use Rattle.layout.specs.Internal.Words.{lower_of, upper_of, pair_of, lower_real, upper_real, reals_of}
+use Rattle.layout.specs.Internal.Words.{limits_in, severities_in, alarm_in, digital_of, analog_of}
 use Rattle.layout.specs.Internal.Words.{form_of, digital_words, analog_words, alarm_words}
 use Rattle.layout.proofs.Laws.{alarm-stored, length-alarm}
 

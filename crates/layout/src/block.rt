@@ -16,7 +16,7 @@ use settings::refusals::{Reason, Refusal};
 use settings::types::{Alarm, Settings};
 
 // The blocks of a bank, by the place of a refusal.
-#[derive(Clone, Copy, Debug, PartialEq, Eq)]
+#[derive(Clone, Copy)]
 pub enum Block {
     Settings,
     States,

@@ -10,7 +10,7 @@ use crate::sizes::{
 };
 
 // Counted from 0, the digital alarms first.
-#[derive(Clone, Copy, Debug, PartialEq, Eq)]
+#[derive(Clone, Copy)]
 pub struct Place {
     pub index: usize,
     pub ghost below: { index < places },

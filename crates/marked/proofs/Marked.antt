@@ -106,7 +106,8 @@ pub record Marked : Type 0 where
 
 pub all-marked : Marked
 unfolding value bytes largest bounded blanks empty limits_in_range in_range rising banded apart since count_from row_start latest in_alarm acks acting
-    event_bytes log_bytes met frees new_rate sampled_at rate_in count_at severities_at limits_at fields_at checked record_at records_from section_at rest_of read_of
+    event_bytes log_bytes met frees new_rate sampled_at rate_in count_at severities_at limits_at fields_at checked record_at records_from
+    section_at rest_of read_of
     is_one_of sets_only entry_at check_from check_record sample_in no_statuses no_report scan_log accepted digital_image words analog_image bit real of_bits
     of_int sub add mul div neg lt le eq to_bits
 all-marked =
@@ -155,7 +156,8 @@ pub several : written (analog_image 22 numbers 0 0) (real 0 0x44480000 0 ∷ [])
     ∷ record { alarm = 1; condition = 2; kind = 7; suppressed = true; severity = 500; time = 5 }
     ∷ record { alarm = 1; condition = 3; kind = 8; suppressed = true; severity = 500; time = 5 } ∷ [])
 unfolding value bytes largest bounded blanks empty limits_in_range in_range rising banded apart since count_from row_start latest in_alarm acks acting
-    event_bytes log_bytes met frees new_rate sampled_at rate_in count_at severities_at limits_at fields_at checked record_at records_from section_at rest_of read_of
+    event_bytes log_bytes met frees new_rate sampled_at rate_in count_at severities_at limits_at fields_at checked record_at records_from
+    section_at rest_of read_of
     is_one_of sets_only entry_at check_from check_record sample_in no_statuses no_report scan_log accepted digital_image words analog_image bit real of_bits
     of_int sub add mul div neg lt le eq
 several = refl
@@ -176,7 +178,8 @@ pub record Listing : Type 0 where
 
 pub listing : Listing
 unfolding value bytes largest bounded blanks empty limits_in_range in_range rising banded apart since count_from row_start latest in_alarm acks acting
-    event_bytes log_bytes met frees new_rate sampled_at rate_in count_at severities_at limits_at fields_at checked record_at records_from section_at rest_of read_of
+    event_bytes log_bytes met frees new_rate sampled_at rate_in count_at severities_at limits_at fields_at checked record_at records_from
+    section_at rest_of read_of
     is_one_of sets_only entry_at check_from check_record sample_in no_statuses no_report scan_log accepted digital_image words analog_image bit real of_bits
     of_int sub add mul div neg lt le eq
 listing = record { at-1000 = refl; at-1100 = refl; at-1200 = refl; at-1300 = refl; at-1400 = refl; at-1500 = refl; end = refl }

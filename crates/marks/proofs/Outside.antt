@@ -26,7 +26,8 @@ module _ (required : Bool) (starts : List ℕ) (word time : ℕ) where
       let ys = mark_conditions required starts word time base n xs in
       sets-outside (marks_words (after n (marks_at ys (base + 4 * n)))) ys (base + 4 * n) j h
 
-  pub conditions-outside : (base n j : ℕ) (xs : List ℕ) → Outside base (4 * n) j → get_or (mark_conditions required starts word time base n xs) j 0 ≡ get_or xs j 0
+  pub conditions-outside : (base n j : ℕ) (xs : List ℕ) → Outside base (4 * n) j
+      → get_or (mark_conditions required starts word time base n xs) j 0 ≡ get_or xs j 0
   unfolding mark_conditions
   conditions-outside base zero j xs h = refl
   conditions-outside base (suc n) j xs h =

@@ -131,6 +131,7 @@ module _ (alarms : List Alarm) (starts : ℕ → List ℕ) (events : List ℕ) (
   reset-read zero p xs l h = absurd (not-suc-le-zero l)
   reset-read (suc n) p xs l h =
       below
-      (λ (k : ℕ). get_or (mark_alarms alarms starts events time (suc n) xs) (25 * k) 0 ≡ time_stamp_after (bit (get_or events k 0) 4) time (get_or xs (25 * k) 0)) l
+      (λ (k : ℕ). get_or (mark_alarms alarms starts events time (suc n) xs) (25 * k) 0
+      ≡ time_stamp_after (bit (get_or events k 0) 4) time (get_or xs (25 * k) 0)) l
       (alarm-reset n xs h)
       (λ b. alarm-before n (25 * p) xs (omega arith) ∙ reset-read n p xs b (omega arith))

@@ -21,7 +21,8 @@ words-still : (xs : List ℕ) (at : ℕ)
 words-still xs at = rw (set-get_or, set-get_or, set-get_or, set-get_or)
 
 pub condition-still : (required : Bool) (start time at : ℕ) (xs : List ℕ)
-    → mark_condition (record { reset = false; acknowledged = false; returned = false; activated = false; required = required; start = start; time = time }) at xs
+    → mark_condition
+    (record { reset = false; acknowledged = false; returned = false; activated = false; required = required; start = start; time = time }) at xs
     ≡ xs
 unfolding mark_condition
 condition-still required start time at xs = rw (add-one at, add-two at, add-three at) (words-still xs at)

@@ -10,7 +10,9 @@ use layout::sizes::{ALARM_WORDS, MARK_WORDS};
 use settings::types::Form;
 use wire::bits::is_set;
 use wire::choice::choose;
-use wire::places::{ACK_REQUIRED, ANALOG_ACK_REQUIRED, CONDITIONS, COUNT_RESET, SIX};
+use wire::places::{
+    ACK_REQUIRED, ANALOG_ACK_REQUIRED, CONDITION_BITS, CONDITIONS, COUNT_RESET, SIX,
+};
 
 // Where the count reset stamp stands, and the words of the first condition.
 pub const RESET_STAMP: usize = 0;
@@ -52,7 +54,7 @@ fn mark_conditions(
     let mut left = choose(reset, SIX, rest % BEHIND_SIX);
     let mut next = 0;
     while left != 0 {
-        let skipped = left.trailing_zeros() / 3;
+        let skipped = left.trailing_zeros() / CONDITION_BITS;
         let place = next + skipped as usize;
         // in each turn: `as_chunks_mut` says nothing of what the whole becomes, and no function that hands out a `&mut` part proves
         let (_, behind) = marks.split_at_mut(FIRST_CONDITION + CONDITION_WORDS * place);
@@ -61,13 +63,13 @@ fn mark_conditions(
         };
         let change = Change {
             reset,
-            events: rest >> (3 * place),
+            events: rest >> (CONDITION_BITS as usize * place),
             required,
             start: starts[place],
             time,
         };
         mark_condition(words, change);
-        left >>= 3 * (skipped + 1);
+        left >>= CONDITION_BITS * (skipped + 1);
         next = place + 1;
     }
 }

@@ -20,7 +20,7 @@ const ACTIVATED: u32 = 4;
 
 // What a scan did to a condition: whether it reset the counts, its events in the three lowest bits, AckRequired, when the row of scans that
 // met it began, and the scan's time.
-#[derive(Clone, Copy, Debug, PartialEq, Eq)]
+#[derive(Clone, Copy)]
 pub struct Change {
     pub reset: bool,
     pub events: u32,

@@ -3,6 +3,7 @@ ghost use Rattle.std.specs.Prelude.{OnOk, IfOk};
 ghost use Rattle.std.specs.Io.KnownBytes.{Appends};
 ghost use Rattle.scan.specs.Internal.Words.{answer_of};
 ghost use Rattle.bank_text.specs.Internal.Owned.{words_of};
+ghost use Rattle.event.specs.Event.{events_enough};
 ghost use Rattle.meifgur.specs.Internal.Show.{event_lines, scan_events};
 
 use crate::show::{write_conditions, write_events};
@@ -19,7 +20,7 @@ use text::pieces::Pieces;
 
 // Runs a scan record, and writes its events or its refusal.
 fn answer_record<W: Write>(bank: &mut Bank, bytes: &[u8], output: &mut W) -> Result<(), Failure>
-    ensures { IfOk (answer_of (words_of bank.old) bytes.now 3840)
+    ensures { IfOk (answer_of (words_of bank.old) bytes.now events_enough)
         (λ number. OnOk result (Appends (W.contents output.old) (W.contents output.new)
         (event_lines (scan_events (words_of bank.old) bytes.now number)))) }
 {

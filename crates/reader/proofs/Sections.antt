@@ -55,12 +55,15 @@ pub record Counted (image : List ℕ) (at n next : ℕ) : Type 0 where
   pub past : next ≡ at + 1
   pub most : n ≤ 12
 
-pub count-read : (image : List ℕ) (at : ℕ) {n next : ℕ} → count_at image at ≡ Ok (n, next) → Counted image at n next
+pub count-read : (image : List ℕ) (at : ℕ) {n next : ℕ} → count_at image at ≡ Ok (n, next)
+    → Counted image at n next
 unfolding count_at
 count-read image at {n} {next} e = go (ltb at (length image)) (leb (get_or image at 0) 12) refl refl e
   where
     go : (p q : Bool) → ltb at (length image) ≡ p → leb (get_or image at 0) 12 ≡ q
-        → cond p (cond {A = Result (ℕ × ℕ) Refusal} q (Ok (get_or image at 0, at + 1)) (Err (refusal TooMany at))) (Err (refusal Incomplete at)) ≡ Ok (n, next) → Counted image at n next
+        → cond p (cond {A = Result (ℕ × ℕ) Refusal} q (Ok (get_or image at 0, at + 1)) (Err (refusal TooMany at)))
+        (Err (refusal Incomplete at)) ≡ Ok (n, next)
+        → Counted image at n next
     go true true g h e =
         let same = ok-same e in
         let x : n ≡ get_or image at 0 = sym (ap (λ (c : ℕ × ℕ). c.0) same) in

@@ -8,6 +8,7 @@ use Rattle.scan_record.specs.Internal.Size.{length_of}
 use Rattle.bank.specs.Internal.Words.{on_reply, fit_of}
 use Rattle.bank.specs.Lent.{Words}
 use Rattle.scan.specs.Internal.Words.{answer_of, scanned_words, buffer_of}
+use Rattle.event.specs.Event.{event_size}
 use Rattle.replay.specs.declared.replay.Tally.{Tally}
 
 -- the length of a bank's records
@@ -39,11 +40,11 @@ pub record Progress : Type 0 where
 
 -- the part of the buffer with the events so far
 abbrev pub used_of : Progress → List ℕ
-used_of p = take (16 * p.tally.events) p.buffer
+used_of p = take (event_size * p.tally.events) p.buffer
 
 -- what is left of it
 abbrev pub left_of : Progress → List ℕ
-left_of p = drop (16 * p.tally.events) p.buffer
+left_of p = drop (event_size * p.tally.events) p.buffer
 
 -- one more record, with index i: a scan that is lent what is left of the buffer
 unfoldable pub onward : Progress → ℕ → List ℕ → Progress

@@ -11,14 +11,14 @@ use scan_record::check::record_length;
 use settings::refusals::Refusal;
 
 // Which record was the first that was refused, from 0, and why.
-#[derive(Clone, Copy, Debug, PartialEq, Eq)]
+#[derive(Clone, Copy)]
 pub struct FirstRefusal {
     pub refusal: Refusal,
     pub index: usize,
 }
 
 // How the records were answered: how many events were written, how many records were refused, and the first of these.
-#[derive(Clone, Copy, Debug, PartialEq, Eq)]
+#[derive(Clone, Copy)]
 pub struct Tally {
     pub events: usize,
     pub refused: usize,

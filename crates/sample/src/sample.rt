@@ -34,7 +34,7 @@ fn new_rate(flags: u32, enabled: bool, period: u32, stored: u64, x: f32) -> u32
 }
 
 // The words of a rate sample: its value and the rate by their patterns, in the lower and the upper half of one, and its time.
-#[derive(Clone, Copy, Debug, PartialEq, Eq)]
+#[derive(Clone, Copy)]
 pub struct SampleWords {
     pub pair: u64,
     pub time: u64,

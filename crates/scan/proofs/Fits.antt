@@ -50,7 +50,8 @@ module _ (b : Bank) (rec : List ℕ) where
   unfolding event_buffer checked_buffer
   bank-buffer out = go (check_of b rec) (too_short b rec (length out)) refl
     where
-      go : (x : Result (Unit {0}) Refusal) (t : Bool) → too_short b rec (length out) ≡ t → length (on_reply x (cond t out (log ++ drop (length log) out)) (λ r. out)) ≡ length out
+      go : (x : Result (Unit {0}) Refusal) (t : Bool) → too_short b rec (length out) ≡ t
+          → length (on_reply x (cond t out (log ++ drop (length log) out)) (λ r. out)) ≡ length out
       go (Ok u) true e = refl
       go (Ok u) false e =
           omega (

@@ -64,7 +64,8 @@ module _ (alarms : List Alarm) (states : List State) (events : List ℕ) (time :
   up-to-count (suc n) h =
       omega (
         arith,
-        length-append (events_up_to alarms states events time n) (alarm_events (suc n) (get_or alarms n blank) (get_or states n fresh_state) (get_or events n 0) time),
+        length-append (events_up_to alarms states events time n)
+            (alarm_events (suc n) (get_or alarms n blank) (get_or states n fresh_state) (get_or events n 0) time),
         up-to-count n (λ i l. h i (omega arith)),
         events-ones (suc n) (get_or alarms n blank).kind (bit (get_or states n fresh_state).flags 1) time word_bits 0 (get_or events n 0) (h n (omega arith)),
       )

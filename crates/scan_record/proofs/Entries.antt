@@ -38,7 +38,8 @@ stands {A} (c ∷ rest) x {y} e = go c.1 (stands rest x) e
 pub entry_read : (form : Form) (bytes : List ℕ) (at alarm : ℕ) {x : Entry} → entry_at form bytes at alarm ≡ Ok x → entry_in form bytes at ≡ x
 unfolding entry_at
 entry_read form bytes at alarm e =
-    stands (reading_check form bytes at alarm ∷ (refusal UnknownCommand alarm, sets_only (bits_of form) 32 (word_at form bytes at)) ∷ []) (entry_in form bytes at) e
+    stands (reading_check form bytes at alarm ∷ (refusal UnknownCommand alarm, sets_only (bits_of form) 32 (word_at form bytes at)) ∷ [])
+    (entry_in form bytes at) e
 
 pub entry_past : (form : Form) (bytes : List ℕ) (at alarm : ℕ) {x : Entry} → entry_at form bytes at alarm ≡ Ok x → x.next ≡ at + entry_size form
 entry_past form bytes at alarm e = sym (ap (λ (x : Entry). x.next) (entry_read form bytes at alarm e))

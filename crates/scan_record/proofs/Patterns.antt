@@ -104,7 +104,8 @@ in_order x t h = go (ltb x 175) (ltb 175 x) refl refl
         ∙ sym (lt-leb (pattern (suc x) t) most_pattern (omega arith))
     go false false e f =
         let at : x ≡ 175 = omega (arith, ltb-false x 175 e, ltb-false 175 x f) in
-        rw at (same (leading + t) 0 (2 ^ 175) (pow_pos 175) ∙ leb-same (leading + t) 14901161 (pattern 176 t) most_pattern (λ l. omega arith) (λ l. omega arith))
+        rw at (same (leading + t) 0 (2 ^ 175) (pow_pos 175)
+        ∙ leb-same (leading + t) 14901161 (pattern 176 t) most_pattern (λ l. omega arith) (λ l. omega arith))
 
 fields-bounded : (s : Bool) (x t : ℕ) → t < leading → bounded (of_fields binary32 s x t) ≡ leb (pattern x t) most_pattern
 unfolding of_fields

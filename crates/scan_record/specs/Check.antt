@@ -3,7 +3,7 @@ use Rattle.std.specs.Prelude.{ℕ, zero, suc, ◌+◌, List, ◌&&◌, cond, ltb
 use Rattle.settings.specs.Refusals.{refusal, and_then}
 use Rattle.settings.specs.declared.refusals.Refusal.{Refusal}
 use Rattle.settings.specs.declared.refusals.Reason.TheVariants.{WrongLength, EarlierTime}
-use Rattle.scan_record.specs.Part.{time_of, record_size}
+use Rattle.scan_record.specs.Part.{time_size, time_of, record_size}
 use Rattle.settings.specs.Counts.{are_good, in_all, form_at}
 use Rattle.settings.specs.declared.counts.Counts.{Counts}
 use Rattle.scan_record.specs.Entry.{entry_at}
@@ -19,5 +19,5 @@ check_from bytes counts (suc k) place at =
 unfoldable pub check_record : Counts → ℕ → List ℕ → Result ⊤ Refusal
 check_record counts last rec =
     cond (are_good counts && eqb (length rec) (record_size counts))
-    (cond (ltb (time_of rec) last) (Err (refusal EarlierTime 0)) (check_from rec counts (in_all counts) 0 8))
+    (cond (ltb (time_of rec) last) (Err (refusal EarlierTime 0)) (check_from rec counts (in_all counts) 0 time_size))
     (Err (refusal WrongLength 0))

@@ -10,8 +10,11 @@ use Rattle.settings.specs.declared.types.Reading.{Reading}
 use Rattle.settings.specs.declared.types.Reading.TheVariants.{Digital as Bit, Level}
 
 -- the scan's time stands first, in 8 bytes
+abbrev pub time_size : ℕ
+time_size = 8
+
 abbrev pub time_of : List ℕ → ℕ
-time_of rec = number rec 0 8
+time_of rec = number rec 0 time_size
 
 -- an alarm's part: a digital bit in one byte or a REAL in four, then the command word in four
 abbrev pub reading_size : Form → ℕ
@@ -30,7 +33,7 @@ word_at form rec at = number rec (at + reading_size form) 4
 
 -- the length of a record
 abbrev pub record_size : Counts → ℕ
-record_size counts = 8 + sum_of entry_size counts
+record_size counts = time_size + sum_of entry_size counts
 
 -- where the part of the alarm at a place begins: where a record of the alarms in front of it would end
 abbrev pub offset_of : Counts → ℕ → ℕ

@@ -10,14 +10,14 @@ pub const MOST: usize = 12;
 // And of both forms together.
 pub const ALARMS: usize = 2 * MOST;
 
-#[derive(Clone, Copy, Debug, PartialEq, Eq)]
+#[derive(Clone, Copy)]
 pub struct Counts {
     pub digital: usize,
     pub analog: usize,
 }
 
 // Counts that a bank may have.
-#[derive(Clone, Copy, Debug, PartialEq, Eq)]
+#[derive(Clone, Copy)]
 pub struct GoodCounts {
     pub counts: Counts,
     pub ghost few: { Few counts },

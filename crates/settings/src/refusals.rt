@@ -4,7 +4,7 @@ ghost use Rattle.settings.specs.Refusals.{refusal};
 ghost use Rattle.settings.specs.Internal.Replies.{number_of};
 
 // The reasons, as document 01's table has them: a name, a number, and what the place is.
-#[derive(Clone, Copy, Debug, PartialEq, Eq)]
+#[derive(Clone, Copy)]
 pub enum Reason {
     // A count byte is missing or a record incomplete; its offset.
     Incomplete = 1,
@@ -35,7 +35,7 @@ pub enum Reason {
 }
 
 // What a call that is turned back answers.
-#[derive(Clone, Copy, Debug, PartialEq, Eq)]
+#[derive(Clone, Copy)]
 pub struct Refusal {
     pub reason: Reason,
     pub place: usize,

@@ -5,7 +5,7 @@ ghost use Rattle.settings.specs.Alarm.{blank, blanks, empty};
 use crate::counts::{ALARMS, Counts};
 
 // The limits, Deadband and rate limits of an analog alarm, which travel together.
-#[derive(Clone, Copy, Debug, PartialEq)]
+#[derive(Clone, Copy)]
 pub struct Limits {
     pub hh: f32,
     pub h: f32,
@@ -17,7 +17,7 @@ pub struct Limits {
 }
 
 // The severities of an analog alarm's conditions.
-#[derive(Clone, Copy, Debug, PartialEq, Eq)]
+#[derive(Clone, Copy)]
 pub struct Severities {
     pub hh: u32,
     pub h: u32,
@@ -28,7 +28,7 @@ pub struct Severities {
 }
 
 // What the two kinds of alarm have of their own.
-#[derive(Clone, Copy, Debug, PartialEq)]
+#[derive(Clone, Copy)]
 pub enum Kind {
     Digital {
         severity: u32,
@@ -40,7 +40,7 @@ pub enum Kind {
     },
 }
 
-#[derive(Clone, Copy, Debug, PartialEq)]
+#[derive(Clone, Copy)]
 pub struct Alarm {
     pub flags: u8,
     pub duration: u32,
@@ -48,14 +48,14 @@ pub struct Alarm {
 }
 
 // The form of a record, by its section.
-#[derive(Clone, Copy, Debug, PartialEq, Eq)]
+#[derive(Clone, Copy)]
 pub enum Form {
     Digital,
     Analog,
 }
 
 // A decoded reading.
-#[derive(Clone, Copy, Debug, PartialEq)]
+#[derive(Clone, Copy)]
 pub enum Reading {
     Digital(bool),
     Level(f32),
@@ -63,7 +63,7 @@ pub enum Reading {
 
 // The settings of a bank: the digital alarms, then the analog ones, in number order from 1 at place 0. The rest of the
 // array is blank.
-#[derive(Clone, Copy, Debug, PartialEq)]
+#[derive(Clone, Copy)]
 pub struct Settings {
     pub counts: Counts,
     pub alarms: [Alarm; ALARMS],

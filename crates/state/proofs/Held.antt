@@ -23,22 +23,28 @@ run-back a p q High = rw (bit_word (analog_flags a) 4)
 run-back a p q Low = rw (bit_word (analog_flags a) 5)
 
 cell-back : {X : Type 0} (a : AnalogHeld X) (p q : ℕ) (c : Six) → cell_of (hide_analog a p q) c ≡ a.cell c
-cell-back a p q HH = rw (bit_word (analog_flags a) (condition_bit 0 0), bit_word (analog_flags a) (condition_bit 0 1), bit_word (analog_flags a) (condition_bit 0 2))
-cell-back a p q H = rw (bit_word (analog_flags a) (condition_bit 1 0), bit_word (analog_flags a) (condition_bit 1 1), bit_word (analog_flags a) (condition_bit 1 2))
-cell-back a p q L = rw (bit_word (analog_flags a) (condition_bit 2 0), bit_word (analog_flags a) (condition_bit 2 1), bit_word (analog_flags a) (condition_bit 2 2))
-cell-back a p q LL = rw (bit_word (analog_flags a) (condition_bit 3 0), bit_word (analog_flags a) (condition_bit 3 1), bit_word (analog_flags a) (condition_bit 3 2))
-cell-back a p q ROCPos = rw (
-  bit_word (analog_flags a) (condition_bit 4 0),
-  bit_word (analog_flags a) (condition_bit 4 1),
-  bit_word (analog_flags a)
-      (condition_bit 4 2),
-)
-cell-back a p q ROCNeg = rw (
-  bit_word (analog_flags a) (condition_bit 5 0),
-  bit_word (analog_flags a) (condition_bit 5 1),
-  bit_word (analog_flags a)
-      (condition_bit 5 2),
-)
+cell-back a p q HH =
+    rw (bit_word (analog_flags a) (condition_bit 0 0), bit_word (analog_flags a) (condition_bit 0 1), bit_word (analog_flags a) (condition_bit 0 2))
+cell-back a p q H =
+    rw (bit_word (analog_flags a) (condition_bit 1 0), bit_word (analog_flags a) (condition_bit 1 1), bit_word (analog_flags a) (condition_bit 1 2))
+cell-back a p q L =
+    rw (bit_word (analog_flags a) (condition_bit 2 0), bit_word (analog_flags a) (condition_bit 2 1), bit_word (analog_flags a) (condition_bit 2 2))
+cell-back a p q LL =
+    rw (bit_word (analog_flags a) (condition_bit 3 0), bit_word (analog_flags a) (condition_bit 3 1), bit_word (analog_flags a) (condition_bit 3 2))
+cell-back a p q ROCPos =
+    rw (
+      bit_word (analog_flags a) (condition_bit 4 0),
+      bit_word (analog_flags a) (condition_bit 4 1),
+      bit_word (analog_flags a)
+          (condition_bit 4 2),
+    )
+cell-back a p q ROCNeg =
+    rw (
+      bit_word (analog_flags a) (condition_bit 5 0),
+      bit_word (analog_flags a) (condition_bit 5 1),
+      bit_word (analog_flags a)
+          (condition_bit 5 2),
+    )
 
 pub look-packed : {X : Type 0} (v : Patterns X) (a : AnalogHeld X) (p q : ℕ) → v.value p ≡ a.sample.value → v.value q ≡ a.sample.rate
     → look_analog v (hide_analog a p q) ≡ a

@@ -5,7 +5,7 @@ ghost use Rattle.text.specs.Internal.Pieces.{line_end_of, IsLinePart, IsRecordPa
 // The longest line that a program takes, in bytes.
 pub const LONGEST_LINE: usize = 20_000;
 
-#[derive(Clone, Copy, Debug, PartialEq, Eq)]
+#[derive(Clone, Copy)]
 pub enum Pieces {
     // Bytes up to a line end, which is no part of the line.
     Lines,

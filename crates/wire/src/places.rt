@@ -5,6 +5,9 @@ ghost use Rattle.wire.specs.Internal.Places.{six_bits};
 
 use crate::choice::choose;
 
+// The bits of a condition, in both words.
+pub const CONDITION_BITS: u32 = 3;
+
 // What a one counts past three bits: the flags begin with an alarm's three modes, and both words have three bits for each condition.
 pub const THREE_BITS: u32 = 8;
 

@@ -1,7 +1,7 @@
 -- What decides the conditions of an analog alarm, as the code passes it on.
 use Rattle.std.specs.Prelude.{ℕ, Bool, List, get_or}
 use Rattle.layout.specs.Internal.Words.{lower_of}
-use Rattle.six.specs.declared.decide.Cells.{Cells}
+use Rattle.decision.specs.declared.decide.Cells.{Cells}
 use Rattle.analog.specs.declared.inputs.Inputs.{Inputs}
 use Rattle.analog.specs.Internal.Packed.{decided, all_begin, enabled_in}
 

@@ -5,8 +5,8 @@ use Rattle.wire.specs.Internal.Words.{word_of, spread}
 use Rattle.wire.specs.Internal.Places.{high_flag, low_flag, condition_unit, condition_bit}
 use Rattle.layout.specs.Internal.Words.{lower_of, upper_of}
 use Rattle.condition.specs.Internal.Outcome.{ack_bits}
-use Rattle.six.specs.Internal.Cells.{cells_of}
-use Rattle.six.specs.declared.decide.Cells.{Cells}
+use Rattle.decision.specs.Internal.Cells.{cells_of}
+use Rattle.decision.specs.declared.decide.Cells.{Cells}
 
 -- ---- starts
 
@@ -46,8 +46,8 @@ enabled_in modes = not (eqb (modes % 2) 1)
 -- the six conditions
 unfoldable pub decided : ℕ → ℕ → ℕ → ℕ → ℕ → ℕ → ℕ → Bool → ℕ → ℕ → Cells
 decided first high low modes met frees duration required word time =
-    cells_of (lower_of first) (enabled_in modes) met frees (ready_in (lower_of first) high low duration time) (word_of (spread (ack_bits word (upper_of first))))
-    required
+    cells_of (lower_of first) (enabled_in modes) met frees (ready_in (lower_of first) high low duration time)
+    (word_of (spread (ack_bits word (upper_of first)))) required
 
 -- two words of conditions that would be due decide the six alike
 pub record SameReady (flags met ready other : ℕ) : Type 0 where

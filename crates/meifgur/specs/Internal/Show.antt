@@ -1,5 +1,6 @@
 -- The lines of events, and of conditions at the end, as text: 32 stands between two numbers, and 10 at the end.
-use Rattle.std.specs.Prelude.{ℕ, ◌+◌, ◌*◌, ◌-◌, ◌/◌, List, [], ◌∷◌, ◌++◌, length, take, replicate, flat_map, slice_index, cond, not, ltb, Result, Ok, Err, codes}
+use Rattle.std.specs.Prelude.{ℕ, ◌+◌, ◌*◌, ◌-◌, ◌/◌, List, [], ◌∷◌, ◌++◌, length, take, replicate, flat_map}
+use Rattle.std.specs.Prelude.{slice_index, cond, not, ltb, Result, Ok, Err, codes}
 use Rattle.std.specs.Int.{from_bool}
 use Rattle.std.specs.List.{range_with_len}
 use Rattle.std.specs.Simd.{first_chunks}
@@ -15,6 +16,7 @@ use Rattle.scan.specs.Internal.Words.{buffer_of}
 use Rattle.report.specs.declared.report.AlarmReport.{AlarmReport}
 use Rattle.report.specs.declared.status.Status.{Status}
 use Rattle.bank_text.specs.Internal.Owned.{alarms_of, said_of}
+use Rattle.event.specs.Event.{event_size, events_enough}
 use Rattle.bank_text.specs.Internal.Show.{first_number, end_of_numbers}
 
 -- what an event record says: time, alarm, condition, kind, severity, suppressed
@@ -33,11 +35,11 @@ event_line event = event_text event ++ 10 ∷ []
 
 -- the lines of all whole records of a list of bytes
 abbrev pub event_lines : List ℕ → List ℕ
-event_lines events = flat_map event_line (first_chunks 16 (length events / 16) events)
+event_lines events = flat_map event_line (first_chunks event_size (length events / event_size) events)
 
 -- the bytes of so many events of a scan, in a buffer with room for the most
 abbrev pub scan_events : Words → List ℕ → ℕ → List ℕ
-scan_events words bytes number = take (number * 16) (buffer_of words bytes (replicate 3840 0))
+scan_events words bytes number = take (number * event_size) (buffer_of words bytes (replicate events_enough 0))
 
 -- what is said of a condition at the end: alarm, condition, in alarm, unacknowledged, count
 abbrev pub condition_text : ℕ → ℕ → Status → List ℕ

@@ -4,7 +4,7 @@ use Rattle.settings.specs.Counts.{in_all}
 use Rattle.settings.specs.Refusals.{refusal}
 use Rattle.settings.specs.declared.refusals.Refusal.{Refusal}
 use Rattle.settings.specs.declared.refusals.Reason.TheVariants.{EventsTooLong}
-use Rattle.event.specs.Event.{Event, log_bytes}
+use Rattle.event.specs.Event.{Event, event_size, log_bytes}
 use Rattle.scan_record.specs.Part.{time_of}
 use Rattle.scan_record.specs.Check.{check_record}
 use Rattle.marks.specs.Internal.Marks.{mark_alarms}
@@ -56,7 +56,7 @@ bank_after b rec =
 
 -- the buffer is too short for 16 bytes an event
 abbrev pub too_short : Bank → List ℕ → ℕ → Bool
-too_short b rec room = ltb room (16 * length (events_in b rec))
+too_short b rec room = ltb room (event_size * length (events_in b rec))
 
 -- a refusal hands back the bank
 abbrev pub refused_scan : Bank → Refusal → Scanned

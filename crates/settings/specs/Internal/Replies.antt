@@ -3,7 +3,9 @@ use Rattle.std.specs.Prelude.{ℕ, Result, Ok, ⊤}
 use Rattle.settings.specs.Refusals.{and_then}
 use Rattle.settings.specs.declared.refusals.Refusal.{Refusal}
 use Rattle.settings.specs.declared.refusals.Reason.{Reason}
-use Rattle.settings.specs.declared.refusals.Reason.TheVariants.{Incomplete, TooMany, UnknownFlag, OutOfRange, WrongLimits, LeftOver, WrongLength, EarlierTime, NotABit, BadReal, UnknownCommand, EventsTooLong, ImageTooLong, NoSuchAlarm, NoBank}
+use Rattle.settings.specs.declared.refusals.Reason.TheVariants.{Incomplete, TooMany, UnknownFlag, OutOfRange, WrongLimits, LeftOver}
+use Rattle.settings.specs.declared.refusals.Reason.TheVariants.{WrongLength, EarlierTime, NotABit, BadReal, UnknownCommand}
+use Rattle.settings.specs.declared.refusals.Reason.TheVariants.{EventsTooLong, ImageTooLong, NoSuchAlarm, NoBank}
 
 -- 42: the lent words are no bank's
 abbrev pub number_of : Reason → ℕ

@@ -14,7 +14,7 @@ use Rattle.settings.specs.declared.types.Form.TheVariants.{Digital, Analog}
 use Rattle.layout.specs.Internal.Words.{alarm_in}
 use Rattle.layout.specs.Internal.Block.{alarm_at, counts_in, count_in, alarm_on, state_at, mark_at}
 use Rattle.scan_record.specs.Part.{time_of, reading_at, word_at, offset_of, record_size}
-use Rattle.event.specs.Event.{Event, log_bytes}
+use Rattle.event.specs.Event.{Event, event_size, log_bytes}
 use Rattle.event.specs.Internal.Bits.{events_of}
 use Rattle.state.specs.Internal.State.{State, Stepped, starts_of, state_in, state_words}
 use Rattle.sweep.specs.Internal.Step.{step_of}
@@ -78,7 +78,7 @@ most_events Digital = 5
 most_events Analog = 15
 
 abbrev pub most_bytes : Counts → ℕ
-most_bytes counts = 16 * sum_of most_events counts
+most_bytes counts = event_size * sum_of most_events counts
 
 module _ (w : Words) (rec : List ℕ) where
   abbrev pub part_at : ℕ → ℕ

@@ -9,8 +9,8 @@ use Rattle.wire.specs.Internal.Words.{word_of, spread}
 use Rattle.wire.specs.Internal.Places.{condition_unit}
 use Rattle.layout.specs.Internal.Words.{pair_of}
 use Rattle.condition.specs.Internal.Outcome.{ack_bits}
-use Rattle.six.specs.declared.decide.Cells.{Cells}
-use Rattle.six.specs.Internal.Cells.{cells_of}
+use Rattle.decision.specs.declared.decide.Cells.{Cells}
+use Rattle.decision.specs.Internal.Cells.{cells_of}
 use Rattle.state.specs.Internal.Starts.{keep_starts}
 use Rattle.state.proofs.Starts.{starts-behind}
 use Rattle.analog.specs.Internal.Inputs.{decided_by, begins_by}

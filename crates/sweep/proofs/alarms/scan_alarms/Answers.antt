@@ -51,7 +51,10 @@ scan_group-used-requires c =
     record {
       timed = c.get-time.ensures;
       few = omega (arith, r.most);
-      parts = (c.analog_begin.ensures ∙ ap (λ (k : Counts). offset_of k a.good.counts.digital) r.counts-are, omega (arith, r.record-long, c.analog_begin.ensures));
+      parts = (
+        c.analog_begin.ensures ∙ ap (λ (k : Counts). offset_of k a.good.counts.digital) r.counts-are,
+        omega (arith, r.record-long, c.analog_begin.ensures),
+      );
       have_form = rw (← d) (analog-places a.good.counts);
       room = omega (arith, log, e.value, length_whole w rec a.good.counts.digital a.good.counts.analog, most, c.requires.room, out);
     }

@@ -4,7 +4,7 @@ use Rattle.wire.specs.Bits.{bit}
 use Rattle.wire.specs.Internal.Words.{word_of}
 use Rattle.wire.specs.Internal.Places.{condition_bit}
 use Rattle.condition.specs.Internal.Outcome.{outcome_bits}
-use Rattle.six.specs.declared.decide.Cells.{Cells}
+use Rattle.decision.specs.declared.decide.Cells.{Cells}
 
 -- the outcome of the condition at place k, from its bits in the flags
 abbrev pub cell : ℕ → Bool → ℕ → ℕ → ℕ → ℕ → Bool → ℕ → List Bool

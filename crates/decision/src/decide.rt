@@ -1,12 +1,12 @@
 // The six conditions of an analog alarm, all at once: each word has a bit for each, at every third place.
 ghost use Rattle.std.specs.Prelude.{◌≡◌, ◌+◌, ◌*◌, ◌≤◌, ◌<◌};
-ghost use Rattle.six.specs.Internal.Cells.{cells_of};
+ghost use Rattle.decision.specs.Internal.Cells.{cells_of};
 ghost use Rattle.wire.specs.Internal.Places.{six_bits, six_range};
 
 use wire::places::{HH, HH_UNACKED, SIX, every};
 
 // Bits of the six conditions: what each keeps, three a condition, and its events, three a condition.
-#[derive(Clone, Copy, Debug, PartialEq, Eq)]
+#[derive(Clone, Copy)]
 pub struct Cells {
     pub kept: u32,
     pub events: u32,

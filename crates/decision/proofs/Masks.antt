@@ -10,7 +10,7 @@ use Rattle.wire.proofs.WordLaws.{bit-shift}
 use Rattle.wire.proofs.MaskLaws.{Thirds, every, within, same, both, either, differ, flip, of_word, with-word, join}
 use Rattle.wire.specs.Internal.Places.{condition_unit, condition_bit, six_bits}
 use Rattle.history.specs.Internal.Condition.{Told, acknowledges, returns, activates, alarm_after, unacked_after}
-use Rattle.six.specs.Internal.Cells.{cell, six}
+use Rattle.decision.specs.Internal.Cells.{cell, six}
 
 -- ---- laws of truth values: e enabled, a in alarm, u unacknowledged, m met, f freed, r ready, k acknowledged, q required, v activated
 

@@ -1,9 +1,9 @@
--- `six::decide::decide` meets its contract: six outcomes at once, by masks. Assumes nothing.
+-- `decision::decide::decide` meets its contract: six outcomes at once, by masks. Assumes nothing.
 use mathlib.Core.Path.{ap₂, ◌∙◌}
 use Prim.Native.Nat.{ℕ}
-use Rattle.six.specs.Internal.Cells.{cells_of}
-use Rattle.six.proofs.Masks.{kept-fits, kept-is, events-fit, events-is}
-use Rattle.six.proofs.decide.decide.Goals as goal
+use Rattle.decision.specs.Internal.Cells.{cells_of}
+use Rattle.decision.proofs.Masks.{kept-fits, kept-is, events-fit, events-is}
+use Rattle.decision.proofs.decide.decide.Goals as goal
 
 pub threes-requires : goal.threes-requires
 threes-requires c =
