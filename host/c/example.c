@@ -136,6 +136,9 @@ int main(int argc, char **argv)
         return fail("arguments other than FILE", (uint64_t)argc, 0);
     if (!meifgur_sizes_agree() || meifgur_record_length(1, 0) != RECORD)
         return fail("another version", meifgur_version(), 0);
+    /* Before there are settings: the factory bank watches twelve silent sensors. */
+    if (meifgur_load(bank, image, 0, &loaded) != MEIFGUR_OK || loaded.digital != 12 || loaded.analog != 0)
+        return fail("no factory bank", loaded.number, loaded.place);
     if (load(bank, &loaded))
         return 1;
 

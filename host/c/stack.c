@@ -64,9 +64,11 @@ static void make_records(void)
     }
 }
 
+/* The factory bank, then the full one. */
 static void load(void)
 {
     struct meifgur_loaded answer;
+    refused += meifgur_load(&bank, image, 0, &answer) != MEIFGUR_OK;
     refused += meifgur_load(&bank, image, sizeof image, &answer) != MEIFGUR_OK;
 }
 

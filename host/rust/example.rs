@@ -98,6 +98,9 @@ fn main() -> io::Result<()> {
     let path = env::args().nth(1).expect("argument: FILE");
 
     let mut bank = Bank::empty();
+    // Before there are settings: the factory bank watches twelve silent sensors.
+    let counts = bank.load(&[]).expect("the factory bank");
+    assert_eq!((counts.digital, counts.analog), (12, 0));
     let counts = bank.load(&IMAGE).expect("settings");
     let mut copy = [0; meifgur::IMAGE_MOST];
     let length = bank.write(&mut copy).expect("settings written");

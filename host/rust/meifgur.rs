@@ -186,7 +186,8 @@ impl Bank {
         bank
     }
 
-    /// Takes the settings of an image over, with fresh alarms. A refused image leaves a bank without alarms.
+    /// Takes the settings of an image over, with fresh alarms: of no bytes those of the factory bank. A refused image leaves
+    /// a bank without alarms.
     pub fn load(&mut self, image: &[u8]) -> Result<Counts, Refusal> {
         let mut answer = [0; LOAD_ANSWER];
         let Bank {

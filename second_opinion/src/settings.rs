@@ -68,8 +68,15 @@ pub fn severity_is_invalid(stored: i32) -> bool {
     !(1..=1000).contains(&stored)
 }
 
-/// The settings of all alarms, or the first fault in reading order.
+/// An alarm of a receiver without settings of its own (document 02, slip 1).
+const FACTORY: DigitalSettings =
+    DigitalSettings { condition: true, ack_required: true, latched: false, severity: 500, min_duration: 0 };
+
+/// The settings of all alarms, or the first fault in reading order. No bytes mean twelve alarms by `FACTORY`.
 pub fn read(image: &[u8]) -> Result<(Vec<DigitalSettings>, Vec<AnalogSettings>), Refusal> {
+    if image.is_empty() {
+        return Ok((vec![FACTORY; MOST], Vec::new()));
+    }
     let mut reader = Reader { image, at: 0 };
     let digital = reader.section(DigitalSettings::decode)?;
     let analog = reader.section(AnalogSettings::decode)?;

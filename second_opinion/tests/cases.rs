@@ -232,9 +232,9 @@ fn mixed_image() -> Vec<u8> {
 #[test]
 fn settings_cut_short() {
     let image = mixed_image();
-    for length in 0..image.len() {
-        // 0 count, 1 and 10 digital, 19 count, 20 and 81 analog
-        let place = [0, 1, 10, 19, 20, 81].into_iter().rfind(|&place| place <= length).unwrap();
+    for length in 1..image.len() {
+        // 1 and 10 digital, 19 count, 20 and 81 analog
+        let place = [1, 10, 19, 20, 81].into_iter().rfind(|&place| place <= length).unwrap();
         settings_refused(&image[..length], 1, place as u64);
     }
     let mut image = image;
@@ -243,6 +243,16 @@ fn settings_cut_short() {
     image.push(0);
     settings_refused(&image, 6, 142);
     settings_refused(&[0, 0, 0], 6, 2);
+}
+
+#[test]
+fn no_settings_are_the_factory_bank() {
+    let bank = Bank::read(&[]).unwrap();
+    let full = image(&vec![digital(3, 500, 0); 12], &[]);
+    let mut out = [0xA5; 111];
+    assert_eq!(bank.write(&mut out[..109]), Err(refused(13, 0)));
+    assert_eq!(bank.write(&mut out), Ok(110));
+    assert_eq!((&out[..110], out[110]), (&full[..], 0xA5));
 }
 
 #[test]

@@ -22,8 +22,9 @@ use Rattle.settings_record.proofs.Laws.{was_read}
 use Rattle.layout.specs.Internal.Block.{placed, settings_in, settings_words, state_at}
 use Rattle.layout.proofs.Laws.{length-placed, placed_below}
 use Rattle.layout.proofs.Back.{Kept, digital-kept, Reals, analog-kept, block-is, settings-back}
-use Rattle.reader.specs.Read.{settings_of}
+use Rattle.reader.specs.Read.{in_full, settings_of}
 use Rattle.reader.proofs.Settled.{settled}
+use Rattle.reader.proofs.Full.{bytes-in-full}
 use Rattle.state.specs.Internal.Held.{fresh_state}
 use Rattle.state.specs.Internal.State.{State, state_in}
 use Rattle.bank.specs.Internal.Bank.{fresh_bank, load_of}
@@ -50,7 +51,7 @@ states-fresh =
     let l : i < 24 = omega (arith, length-placed f 24 fresh) in
     placed_below f 24 i fresh fresh_state l (omega arith) ∙ fresh_at (state_at i) ∙ sym (get_or-replicate 24 i fresh_state fresh_state l))
 
--- ---- settings from an image of bytes
+-- ---- the alarms of an image of bytes
 
 module _ (image : List ℕ) (b : T (are_bytes image)) where
   severity-lt : (at k : ℕ) → word_place at k + 4 ≤ length image → number image (word_place at k) 4 < 4294967296
@@ -89,9 +90,12 @@ module _ (image : List ℕ) (b : T (are_bytes image)) where
       let r = was_read AnalogForm image at e in
       subst (Kept AnalogForm) r.alarm (analog-alarm at r.whole (ltb-true _ 32 r.passed.0))
 
+-- ---- settings from an image of bytes
+
+module _ (image : List ℕ) (b : T (are_bytes image)) where
   pub loaded-settings : settings_in (settings_words (settings_of image)) ≡ (settings_of image)
   loaded-settings =
-      let s = settled image Kept each in
+      let s = settled image Kept (each (in_full image) (bytes-in-full image b)) in
       settings-back (settings_of image) s.long (omega (arith, s.most)) s.read s.behind
 
   -- the words of a loaded bank stand for the bank of its image

@@ -25,7 +25,7 @@ use Rattle.settings.specs.declared.types.Kind.{Kind}
 use Rattle.settings.specs.declared.types.Kind.TheVariants.{Digital, Analog}
 use Rattle.settings.specs.declared.types.Form.{Form}
 use Rattle.settings.specs.declared.types.Form.TheVariants.{Digital as DigitalForm, Analog as AnalogForm}
-use Rattle.std.proofs.Common.{Result, Ok, Err}
+use Rattle.std.proofs.Common.{Result, Ok}
 use Rattle.settings.specs.declared.refusals.Refusal.{Refusal}
 use Rattle.reader.specs.Internal.Sound.{SoundSettings}
 use Rattle.reader.proofs.Sound.{digital-sound, analog-sound}

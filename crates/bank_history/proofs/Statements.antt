@@ -13,7 +13,7 @@ use Rattle.alarm_history.specs.Scans.{Scan}
 use Rattle.settings.specs.Counts.{in_all}
 use Rattle.settings.proofs.Few.{good as counts-good}
 use Rattle.settings.specs.Condition.{Condition, In, conditions_of}
-use Rattle.std.proofs.Common.{Result, Ok, Err}
+use Rattle.std.proofs.Common.{Ok, Err}
 use Rattle.std.specs.Result.{is_ok}
 use Rattle.settings.specs.Refusals.{refusal}
 use Rattle.settings.specs.declared.refusals.Reason.TheVariants.{ImageTooLong}
@@ -41,7 +41,7 @@ use Rattle.report.specs.declared.report.AlarmReport.{AlarmReport}
 use Rattle.bank_history.specs.Calls.{Call}
 use Rattle.bank_history.specs.Answers.{alarm_at, scans_at, last_accepted, answer_to, buffer_after}
 use Rattle.bank_history.specs.Report.{status_of, alarm_report, report_after}
-use Rattle.bank_history.specs.Statements.{Good, words, records, Replies, EveryReply, DemandThree, TwoReceivers}
+use Rattle.bank_history.specs.Statements.{Good, words, records, whole, Replies, EveryReply, DemandThree, TwoReceivers}
 use Rattle.bank_history.proofs.Banks.{Kept, fresh_kept}
 use Rattle.bank_history.proofs.Lists.{scan-said, buffer-said, bank_after_all, kept-after}
 use Rattle.bank_history.proofs.Lent.{answer-on, buffer-on, report-on, write-on, written_on, lent-bank}
@@ -134,14 +134,17 @@ module _ (image : List ℕ) (calls : List Call) (good : Good image) where
 
   -- ---- the writer
 
-  image-is : image_of s ≡ image
-  image-is = RoundTrip.round_trip image good.0 good.1
+  abbrev full : List ℕ
+  full = whole image calls
 
-  write-said : (room : ℕ) → written_of b.settings room ≡ cond (leb (length image) room) (Ok (length image)) (Err (refusal ImageTooLong 0))
+  image-is : image_of s ≡ full
+  image-is = RoundTrip.written-back image good.0 good.1
+
+  write-said : (room : ℕ) → written_of b.settings room ≡ cond (leb (length full) room) (Ok (length full)) (Err (refusal ImageTooLong 0))
   unfolding written_of
   write-said room = rw (stay, RoundTrip.room-is image good.0 good.1 room, image-is)
 
-  written-said : (out : List ℕ) → image_buffer b.settings out ≡ cond (leb (length image) (length out)) (image ++ drop (length image) out) out
+  written-said : (out : List ℕ) → image_buffer b.settings out ≡ cond (leb (length full) (length out)) (full ++ drop (length full) out) out
   unfolding image_buffer
   written-said out = rw (stay, RoundTrip.room-is image good.0 good.1 (length out), image-is)
 

@@ -8,7 +8,7 @@ use Rattle.settings.specs.Refusals.{refusal}
 use Rattle.settings.specs.declared.refusals.Reason.TheVariants.{ImageTooLong}
 use Rattle.history.specs.Words.{Demand3}
 use Rattle.event.specs.Event.{events_enough}
-use Rattle.reader.specs.Read.{read_of, settings_of}
+use Rattle.reader.specs.Read.{read_of, in_full, settings_of}
 use Rattle.image.specs.Internal.Write.{write_of, write_buffer}
 use Rattle.scan_record.specs.Check.{check_record}
 use Rattle.alarm_history.specs.Facts.{rules_of, facts}
@@ -34,6 +34,10 @@ module _ (image : List ℕ) (calls : List Call) where
   abbrev pub records : List (List ℕ)
   records = accepted (settings_of image) calls []
 
+  -- the image in full
+  abbrev pub whole : List ℕ
+  whole = in_full image
+
   -- what one more call then gives
   pub record Replies : Type 0 where
     -- a scan: it is not refused exactly where none of 7 to 12 applies
@@ -46,9 +50,9 @@ module _ (image : List ℕ) (calls : List Call) where
         → is_ok (answer_of words rec room) ≡ true
     -- a report
     pub report : (n : ℕ) → report_in words n ≡ report_after (settings_of image) records n
-    -- the writer: the image that was read, or 13
-    pub write : (room : ℕ) → write_of words.settings room ≡ cond (leb (length image) room) (Ok (length image)) (Err (refusal ImageTooLong 0))
-    pub image-written : (out : List ℕ) → write_buffer words.settings out ≡ cond (leb (length image) (length out)) (image ++ drop (length image) out) out
+    -- the writer: the image in full, or 13
+    pub write : (room : ℕ) → write_of words.settings room ≡ cond (leb (length whole) room) (Ok (length whole)) (Err (refusal ImageTooLong 0))
+    pub image-written : (out : List ℕ) → write_buffer words.settings out ≡ cond (leb (length whole) (length out)) (whole ++ drop (length whole) out) out
 
 -- every reply and every byte, for every list of calls
 abbrev pub EveryReply : Type 0

@@ -1,6 +1,6 @@
 -- Settings that are read are written back to the same bytes; how long an accepted image is. Assumes nothing.
 use mathlib.Core.Path.{◌≡◌, refl, sym, ap, ap₂, subst, ◌∙◌}
-use mathlib.Core.List.{List, ◌∷◌, ◌++◌}
+use mathlib.Core.List.{List, [], ◌∷◌, ◌++◌}
 use mathlib.Core.Bool.{true, cond}
 use Prim.Native.Nat.{ℕ, zero, suc, ◌+◌, ◌*◌, ◌≤◌, ◌<◌}
 use native.Mathlib.Nat.{add-zero, mul-zero, mul-suc, zero-add, le_refl}
@@ -11,14 +11,14 @@ use lib.Dec.{T, leb, ltb}
 use lib.ListN.{length, get_or, take, drop, set, length-set}
 use lib.Pow.{are_bytes}
 use lib.Seq.{slice, slice_empty, slice-cons, take-take, take-set-le, get_or-take, get_or-set_same, take_all, take_at}
-use Rattle.wire.specs.Number.{part}
+use Rattle.wire.specs.Number.{bytes, part}
 use Rattle.wire.proofs.Laws.{part-suc, part-add}
 use Rattle.settings.proofs.Few.{good}
-use Rattle.settings.specs.Alarm.{blank, blanks, empty}
+use Rattle.settings.specs.Alarm.{blank, blanks, empty, factory}
 use Rattle.reader.specs.Count.{count_at}
 use Rattle.settings_record.specs.Record.{record_at, size_of}
 use Rattle.reader.specs.Section.{records_from, section_at}
-use Rattle.reader.specs.Read.{read_of, rest_of, settings_of}
+use Rattle.reader.specs.Read.{sections_of, rest_of, read_of, in_full, settings_of}
 use Rattle.image.specs.Internal.Write.{records_bytes, section_bytes, image_of, has_room, written_of, image_buffer}
 use Rattle.std.proofs.Common.{Ok, Err}
 use Rattle.std.specs.Result.{is_ok}
@@ -33,6 +33,7 @@ use Rattle.reader.specs.declared.section.Section.{Section}
 use Rattle.settings.specs.declared.types.Settings.{Settings}
 use Rattle.image.proofs.Inverse.{Inverse, inverse}
 use Rattle.reader.proofs.Sections.{count-read, records-count}
+use Rattle.reader.proofs.Full.{read-in-full, bytes-in-full, read-again, full-some}
 use Rattle.reader.proofs.Sound.{sound-settings}
 
 -- ---- a section's records
@@ -161,8 +162,8 @@ module _ (image : List ℕ) (b : T (are_bytes image)) where
       }
 
   -- an accepted image's length, and what is written back
-  pub accepted : {s : Settings} → read_of image ≡ Ok s → RoundTrip image s
-  unfolding read_of rest_of blanks
+  pub accepted : {s : Settings} → sections_of image ≡ Ok s → RoundTrip image s
+  unfolding sections_of rest_of blanks
   accepted e =
       let f = and-then-ok (section_at DigitalForm image 0 0 blanks) (rest_of image) e in
       let d = f.value in
@@ -182,35 +183,49 @@ module _ (image : List ℕ) (b : T (are_bytes image)) (e : is_ok (read_of image)
   abbrev settings : Settings
   settings = settings_of image
 
-  trip : RoundTrip image settings
-  trip = accepted image b (was-ok (read_of image) empty e)
+  -- the image in full
+  abbrev whole : List ℕ
+  whole = in_full image
 
-  -- settings that are read are written back to the same bytes
-  pub round_trip : image_of settings ≡ image
-  round_trip = trip.back
+  trip : RoundTrip whole settings
+  trip = accepted whole (bytes-in-full image b) (read-in-full image ∙ was-ok (read_of image) empty e)
 
-  pub longest : length image ≤ 842
+  -- settings that are read are written back in full
+  pub written-back : image_of settings ≡ whole
+  written-back = trip.back
+
+  -- which are the same bytes, but for the image of no bytes
+  pub round_trip : 1 ≤ length image → image_of settings ≡ image
+  round_trip h = written-back ∙ full-some image h
+
+  pub longest : length whole ≤ 842
   longest = let s = sound-settings image in omega (arith, trip.size, s.most)
 
-  pub room-is : (n : ℕ) → has_room settings.counts n ≡ leb (length image) n
+  pub room-is : (n : ℕ) → has_room settings.counts n ≡ leb (length whole) n
   unfolding has_room
   room-is n = rw (good settings.counts (sound-settings image).most, ← trip.size) refl
 
-  -- a buffer that is long enough gets the image, and reading its front gives the same settings again
-  pub written : (out : List ℕ) → length image ≤ length out
-      → (written_of settings (length out) ≡ Ok (length image)) × (image_buffer settings out ≡ image ++ drop (length image) out)
+  -- a buffer that is long enough gets the image in full, and reading its front gives the same settings again
+  pub written : (out : List ℕ) → length whole ≤ length out
+      → (written_of settings (length out) ≡ Ok (length whole)) × (image_buffer settings out ≡ whole ++ drop (length whole) out)
   unfolding written_of image_buffer
   written out h =
-      let t = room-is (length out) ∙ le-leb (length image) (length out) h in
-      (rw (t, round_trip), rw (t, round_trip))
+      let t = room-is (length out) ∙ le-leb (length whole) (length out) h in
+      (rw (t, written-back), rw (t, written-back))
 
-  pub read_again : (out : List ℕ) → length image ≤ length out → read_of (take (length image) (image_buffer settings out)) ≡ read_of image
-  read_again out h = ap read_of (ap (take (length image)) (written out h).1 ∙ take_at image (drop (length image) out) (length image) refl)
+  pub read_again : (out : List ℕ) → length whole ≤ length out → read_of (take (length whole) (image_buffer settings out)) ≡ read_of image
+  read_again out h =
+      ap read_of (ap (take (length whole)) (written out h).1 ∙ take_at whole (drop (length whole) out) (length whole) refl) ∙ read-again image
 
   -- a shorter one is refused and left as it was
-  pub too_short : (out : List ℕ) → length out < length image
+  pub too_short : (out : List ℕ) → length out < length whole
       → (written_of settings (length out) ≡ Err (refusal ImageTooLong 0)) × (image_buffer settings out ≡ out)
   unfolding written_of image_buffer
   too_short out h =
-      let t = room-is (length out) ∙ lt-leb (length image) (length out) h in
+      let t = room-is (length out) ∙ lt-leb (length whole) (length out) h in
       (rw t, rw t)
+
+-- the factory bank's image has 110 bytes, is read as that bank, and is what is written of it
+pub factory_trip : (length (in_full []) ≡ 110) × (read_of (in_full []) ≡ Ok factory) × (image_of factory ≡ in_full [])
+unfolding bytes in_full read_of
+factory_trip = (refl, read-again [], written-back [] tt refl)

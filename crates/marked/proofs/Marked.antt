@@ -22,7 +22,7 @@ use Rattle.settings.specs.Numbers.{new_rate}
 use Rattle.reader.specs.Count.{count_at}
 use Rattle.settings_record.specs.Record.{severities_at, limits_at, fields_at, record_at}
 use Rattle.reader.specs.Section.{records_from, section_at}
-use Rattle.reader.specs.Read.{rest_of, read_of}
+use Rattle.reader.specs.Read.{rest_of, sections_of, read_of}
 use Rattle.scan_record.specs.Entry.{entry_at}
 use Rattle.scan_record.specs.Check.{check_from, check_record}
 use Rattle.alarm_history.specs.Sample.{sampled_at, sample_in, rate_in}
@@ -107,7 +107,7 @@ pub record Marked : Type 0 where
 pub all-marked : Marked
 unfolding value bytes largest bounded blanks empty limits_in_range in_range rising banded apart since count_from row_start latest in_alarm acks acting
     event_bytes log_bytes met frees new_rate sampled_at rate_in count_at severities_at limits_at fields_at checked record_at records_from
-    section_at rest_of read_of
+    section_at rest_of sections_of read_of
     is_one_of sets_only entry_at check_from check_record sample_in no_statuses no_report scan_log accepted digital_image words analog_image bit real of_bits
     of_int sub add mul div neg lt le eq to_bits
 all-marked =
@@ -157,7 +157,7 @@ pub several : written (analog_image 22 numbers 0 0) (real 0 0x44480000 0 ∷ [])
     ∷ record { alarm = 1; condition = 3; kind = 8; suppressed = true; severity = 500; time = 5 } ∷ [])
 unfolding value bytes largest bounded blanks empty limits_in_range in_range rising banded apart since count_from row_start latest in_alarm acks acting
     event_bytes log_bytes met frees new_rate sampled_at rate_in count_at severities_at limits_at fields_at checked record_at records_from
-    section_at rest_of read_of
+    section_at rest_of sections_of read_of
     is_one_of sets_only entry_at check_from check_record sample_in no_statuses no_report scan_log accepted digital_image words analog_image bit real of_bits
     of_int sub add mul div neg lt le eq
 several = refl
@@ -179,7 +179,7 @@ pub record Listing : Type 0 where
 pub listing : Listing
 unfolding value bytes largest bounded blanks empty limits_in_range in_range rising banded apart since count_from row_start latest in_alarm acks acting
     event_bytes log_bytes met frees new_rate sampled_at rate_in count_at severities_at limits_at fields_at checked record_at records_from
-    section_at rest_of read_of
+    section_at rest_of sections_of read_of
     is_one_of sets_only entry_at check_from check_record sample_in no_statuses no_report scan_log accepted digital_image words analog_image bit real of_bits
     of_int sub add mul div neg lt le eq
 listing = record { at-1000 = refl; at-1100 = refl; at-1200 = refl; at-1300 = refl; at-1400 = refl; at-1500 = refl; end = refl }

@@ -12,9 +12,13 @@ use text::failure::Failure;
 // 843, as the first byte left over does, which is the place of refusal 6.
 const IMAGE_SIZE: u64 = 1024;
 
-// The front of a file. A missing file counts as no bytes. Of one that can't be opened or read, what was read before counts; standard
-// error then has the reason. It fails for memory alone. No clause bounds what is read, since std says what `take` leaves of known bytes only.
-pub fn read_image(rt: &(impl Files + AllocGlobal + Eprint), name: &str) -> Result<Vec<u8>, Failure>
+// The front of a file. A missing file counts as no bytes. Of one that can't be opened or read there is none, and standard error has the
+// reason: no bytes would mean the factory bank, which nobody chose. It fails for memory alone. No clause bounds what is read, since std says
+// what `take` leaves of known bytes only.
+pub fn read_image(
+    rt: &(impl Files + AllocGlobal + Eprint),
+    name: &str,
+) -> Result<Option<Vec<u8>>, Failure>
     ensures { IfErr result (λ failure. IsOfMemory failure) }
 {
     let mut image = Vec::new(rt.alloc());
@@ -26,8 +30,8 @@ pub fn read_image(rt: &(impl Files + AllocGlobal + Eprint), name: &str) -> Resul
         Err(error) if error.kind() == ErrorKind::OutOfMemory => Err(Failure::Memory(error)),
         Err(error) if error.kind() != ErrorKind::NotFound => {
             let _ = eprintln!(rt; "{name}: {error}");
-            Ok(image)
+            Ok(None)
         }
-        _ => Ok(image),
+        _ => Ok(Some(image)),
     }
 }

@@ -33,6 +33,8 @@
  *   digital  flags (bit 0 Condition, 1 AckRequired, 2 Latched), Severity (4), MinDuration (4)
  *   analog   flags (bits 0 to 3 HH, H, L, LL enabled, 4 AckRequired), six Severities of 4 bytes (HH, H, L, LL, ROCPos,
  *            ROCNeg), REALs HH, H, L, LL, Deadband, ROCPosLimit, ROCNegLimit, then ROCPeriod (4), MinDuration (4)
+ * An image of no bytes means the factory bank: twelve digital alarms with Condition and AckRequired, Severity 500,
+ * MinDuration 0. It is written out in full, in 110 bytes; every other image is written as it was read.
  *
  * Scan record, meifgur_record_length(digital, analog) bytes: time (8), then for each alarm its reading (digital: one
  * byte, 0 or 1; analog: a REAL) and a command word (4).
@@ -78,7 +80,7 @@ extern "C" {
  * Bytes of stack, measured on a full bank and rounded up (host/c/stack.c measures them). A scan whose event buffer might be
  * too short runs on copies, and uses what SCAN_SHORT says. REPLAY is of the longer of the two ways.
  */
-#define MEIFGUR_LOAD_STACK 6144u
+#define MEIFGUR_LOAD_STACK 10240u
 #define MEIFGUR_SCAN_STACK 1024u
 #define MEIFGUR_SCAN_SHORT_STACK 17408u
 #define MEIFGUR_REPORT_STACK 1024u
@@ -93,7 +95,7 @@ extern "C" {
 
 /*
  * Refusals: number, and what its place is.
- *   settings  1 byte or record missing, 2 count over 12: its offset
+ *   settings  1 byte or record missing (never of an image of no bytes), 2 count over 12: its offset
  *             3 unknown flag, 4 number outside its range, 5 limits or Deadband rule: the record's offset
  *             6 bytes left over: the first of them
  *   record    7 length wrong, 8 time earlier than that of the last accepted record: 0
@@ -154,8 +156,8 @@ struct meifgur_replayed {
  */
 
 /*
- * Makes the words a bank of a settings image's alarms, before their first scan, whatever the words held. A refused image
- * makes them a bank without alarms, and its refusal is returned.
+ * Makes the words a bank of a settings image's alarms, before their first scan, whatever the words held. A length of 0
+ * makes them the factory bank. A refused image makes them a bank without alarms, and its refusal is returned.
  *
  * answer: number, place, digital, analog. Returns 0, 1 to 6, 40, or 42 for a wrong length.
  */

@@ -26,9 +26,10 @@ use Rattle.settings.specs.declared.types.Settings.{Settings}
 use Rattle.settings_record.specs.Record.{record_at}
 use Rattle.reader.specs.Count.{count_at}
 use Rattle.reader.specs.Section.{records_from, section_at}
-use Rattle.reader.specs.Read.{read_of, rest_of, settings_of}
+use Rattle.reader.specs.Read.{sections_of, rest_of, read_of, in_full, settings_of}
 use Rattle.reader.specs.declared.section.Section.{Section}
 use Rattle.reader.proofs.Sections.{count-read, records-count}
+use Rattle.reader.proofs.Full.{read-in-full}
 
 -- n places from `place` on hold alarms with a property; the others are as before
 pub record Filling (P : Alarm → Type 0) (n place : ℕ) (alarms filled : List Alarm) : Type 0 where
@@ -124,8 +125,8 @@ module _ (image : List ℕ) (P : Form → Alarm → Type 0)
           let k = lt_of_not-le l in
           rw (lt-ltb i d k) (subst (P Digital) (sym (y.front i k)) (x.read i (omega arith) (omega arith)))
 
-  settled-read : {s : Settings} → read_of image ≡ Ok s → Settled P s
-  unfolding read_of rest_of blanks
+  settled-read : {s : Settings} → sections_of image ≡ Ok s → Settled P s
+  unfolding sections_of rest_of blanks
   settled-read e =
       let f = and-then-ok (section_at Digital image 0 0 blanks) (rest_of image) e in
       let d = f.value in
@@ -138,10 +139,12 @@ module _ (image : List ℕ) (P : Form → Alarm → Type 0)
       subst (Settled P) (spared (ltb a.next (length image)) (refusal LeftOver a.next) (read a) g.follows).1
       (settled-both d.count a.count d.alarms a.alarms x.0 x.1 y.0 y.1)
 
-  -- what every record gives holds of the settings; refused ones have no alarms
-  pub settled : Settled P (settings_of image)
-  settled = go (read_of image) refl
-    where
-      go : (r : Result Settings Refusal) → read_of image ≡ r → Settled P (result_unwrap_or r empty)
-      go (Ok s) e = settled-read e
-      go (Err r) e = settled-none
+-- what every record of the image in full gives holds of the settings; refused ones have no alarms
+pub settled : (image : List ℕ) (P : Form → Alarm → Type 0)
+    → ((form : Form) (at : ℕ) (a : Alarm) (next : ℕ) → record_at form (in_full image) at ≡ Ok (a, next) → P form a)
+    → Settled P (settings_of image)
+settled image P each = go (read_of image) refl
+  where
+    go : (r : Result Settings Refusal) → read_of image ≡ r → Settled P (result_unwrap_or r empty)
+    go (Ok s) e = settled-read (in_full image) P each (read-in-full image ∙ e)
+    go (Err r) e = settled-none (in_full image) P each

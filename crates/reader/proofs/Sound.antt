@@ -10,13 +10,13 @@ use Rattle.settings.specs.Internal.Sound.{SoundAlarm}
 use Rattle.settings.specs.declared.types.Settings.{Settings}
 use Rattle.settings.specs.declared.types.Form.TheVariants.{Digital, Analog}
 use Rattle.settings_record.proofs.Sound.{sound}
-use Rattle.reader.specs.Read.{settings_of}
+use Rattle.reader.specs.Read.{in_full, settings_of}
 use Rattle.reader.specs.Internal.Sound.{SoundSettings}
 use Rattle.reader.proofs.Settled.{settled}
 
 pub sound-settings : (image : List ℕ) → SoundSettings (settings_of image)
 sound-settings image =
-    let s = settled image SoundAlarm (λ form at a next e. sound form image at e) in
+    let s = settled image SoundAlarm (λ form at a next e. sound form (in_full image) at e) in
     record { most = s.most; long = s.long; sound = s.read }
 
 -- the alarms of each section

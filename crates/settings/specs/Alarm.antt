@@ -1,7 +1,7 @@
 -- The settings of an alarm, and settings without alarms.
-use Rattle.std.specs.Prelude.{ℕ, Bool, List, replicate}
+use Rattle.std.specs.Prelude.{ℕ, ◌-◌, Bool, List, ◌++◌, replicate}
 use Rattle.wire.specs.Bits.{bit}
-use Rattle.settings.specs.Counts.{all_most}
+use Rattle.settings.specs.Counts.{each_most, all_most}
 use Rattle.settings.specs.declared.types.Alarm.{Alarm}
 use Rattle.settings.specs.declared.types.Kind.{Kind}
 use Rattle.settings.specs.declared.types.Kind.TheVariants.{Digital, Analog}
@@ -18,6 +18,17 @@ blank = record { flags = 0; duration = 0; kind = Digital 0 }
 
 unfoldable pub blanks : List Alarm
 blanks = replicate all_most blank
+
+-- an alarm of the factory bank: Condition and AckRequired set, not Latched, Severity 500, MinDuration 0
+abbrev pub factory_alarm : Alarm
+factory_alarm = record { flags = 3; duration = 0; kind = Digital 500 }
+
+-- the factory bank: twelve digital alarms
+unfoldable pub factory : Settings
+factory = record {
+  counts = record { digital = each_most; analog = 0 };
+  alarms = replicate each_most factory_alarm ++ replicate (all_most - each_most) blank;
+}
 
 -- a bank without alarms
 unfoldable pub empty : Settings

@@ -1,8 +1,9 @@
 // An alarm's settings. DINTs are kept as stored, as the unsigned number of the same 32 bits.
 ghost use Rattle.std.specs.Prelude.{◌≡◌};
-ghost use Rattle.settings.specs.Alarm.{blank, blanks, empty};
+ghost use Rattle.settings.specs.Alarm.{blank, blanks, empty, factory, factory_alarm};
 
-use crate::counts::{ALARMS, Counts};
+use crate::counts::{ALARMS, Counts, MOST};
+use wire::places::{ACK_REQUIRED, CONDITION};
 
 // The limits, Deadband and rate limits of an analog alarm, which travel together.
 #[derive(Clone, Copy)]
@@ -85,6 +86,38 @@ pub fn blank_alarms() -> [Alarm; ALARMS]
 {
     let alarm = blank_alarm();
     [alarm; ALARMS]
+}
+
+// The severity of the factory bank's alarms.
+const FACTORY_SEVERITY: u32 = 500;
+
+// An alarm of the factory bank. `as` narrows: flags are a byte.
+fn factory_alarm() -> Alarm
+    ensures { result ≡ factory_alarm }
+{
+    let kind = Kind::Digital {
+        severity: FACTORY_SEVERITY,
+    };
+    Alarm {
+        flags: (CONDITION + ACK_REQUIRED) as u8,
+        duration: 0,
+        kind,
+    }
+}
+
+// The settings of a receiver that was given none: twelve digital alarms. It has a frame of its own, which other images do not pay for.
+#[cold]
+#[inline(never)]
+pub fn factory() -> Settings
+    ensures { result ≡ factory }
+{
+    let mut alarms = blank_alarms();
+    alarms[..MOST].copy_from_slice(&[factory_alarm(); MOST]);
+    let counts = Counts {
+        digital: MOST,
+        analog: 0,
+    };
+    Settings { counts, alarms }
 }
 
 // Settings without alarms.

@@ -77,8 +77,17 @@ pub struct Layout {
 }
 
 impl Layout {
+    /// Of the factory bank, which an image of no bytes means.
+    const FACTORY: Layout = Layout {
+        digital: 12,
+        analog: 0,
+    };
+
     /// By the image's two counts, if its length is the one they ask for. Its alarms may still be refused.
     pub fn of(image: &[u8]) -> Option<Layout> {
+        if image.is_empty() {
+            return Some(Layout::FACTORY);
+        }
         let digital = usize::from(*image.first()?);
         let analog = usize::from(*image.get(1 + DIGITAL.0 * digital)?);
         let layout = Layout { digital, analog };

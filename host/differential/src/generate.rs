@@ -11,25 +11,31 @@ use crate::meifgur::{
 };
 use crate::rng::Rng;
 use second_opinion::Bank;
+use settings::Settings;
 
 /// Bytes of records for a bank without alarms, whose records are of eight bytes.
 const SHORT: usize = 100;
 
 pub fn case(rng: &mut Rng) -> Case {
-    let settings = settings::Settings::random(rng);
+    let settings = settings(rng);
     let mut image = settings.image();
+    // The factory bank has two images.
+    let full = image.len();
+    if settings.is_factory && rng.percent(80) {
+        image.clear();
+    }
     let mut records = scans::records(rng, &settings);
     if rng.percent(30) {
         damage::records(rng, settings.layout(), &mut records);
     }
-    if rng.percent(12) {
+    if rng.percent(12) && !image.is_empty() {
         damage::image(rng, settings.layout(), &mut image);
     }
     if Layout::of(&image).is_none() {
         records.truncate(SHORT);
     }
     let mut case = Case {
-        out: length(rng, image.len(), 80),
+        out: length(rng, image.len().max(full), 80),
         events: 0,
         report: length(rng, REPORT_SIZE, 94),
         load_words: words(rng, LOAD_ANSWER),
@@ -47,6 +53,15 @@ pub fn case(rng: &mut Rng) -> Case {
     let most = most_events(&case);
     case.turns = needs.iter().map(|need| turn(rng, *need, most)).collect();
     case
+}
+
+/// Now and then those of the factory bank.
+fn settings(rng: &mut Rng) -> Settings {
+    if rng.percent(4) {
+        Settings::factory()
+    } else {
+        Settings::random(rng)
+    }
 }
 
 /// Bytes that the events of one scan never exceed.

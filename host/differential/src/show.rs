@@ -89,6 +89,7 @@ pub fn case(case: &Case) -> String {
     let mut text = format!("settings {}\n", hex(&case.image));
     let layout = Layout::of(&case.image);
     match layout {
+        Some(_) if case.image.is_empty() => text += "  the factory bank\n",
         Some(layout) => {
             for alarm in 0..layout.alarms() {
                 text += &settings(layout, alarm, &case.image[layout.settings(alarm)]);

@@ -104,6 +104,10 @@ fn drop_records(case: &mut Case) {
 }
 
 fn drop_alarms(case: &mut Case) {
+    // The factory bank's image has no settings to take an alarm out of.
+    if case.image.is_empty() {
+        return;
+    }
     let alarms = Layout::of(&case.image).map_or(0, Layout::alarms);
     for alarm in (0..alarms).rev() {
         if let Some(layout) = Layout::of(&case.image) {

@@ -12,6 +12,7 @@ const LONGEST_DURATION: u32 = i32::MAX as u32;
 pub struct Settings {
     pub digital: Vec<Digital>,
     pub analog: Vec<Analog>,
+    pub is_factory: bool,
 }
 
 pub struct Digital {
@@ -37,6 +38,21 @@ impl Settings {
         Settings {
             digital: (0..digital).map(|_| Digital::random(rng)).collect(),
             analog: (0..analog).map(|_| Analog::random(rng)).collect(),
+            is_factory: false,
+        }
+    }
+
+    /// Of a receiver without settings: Condition and AckRequired set, Severity 500.
+    pub fn factory() -> Settings {
+        let alarm = || Digital {
+            flags: 0b011,
+            severity: 500,
+            min_duration: 0,
+        };
+        Settings {
+            digital: (0..12).map(|_| alarm()).collect(),
+            analog: Vec::new(),
+            is_factory: true,
         }
     }
 

@@ -1,48 +1,10 @@
--- `reader::read::read` meets its contract: the digital section has at most 12 alarms, then the rest. Assumes nothing.
+-- `reader::read::read` meets its contract: an image of no bytes is the factory bank. Assumes nothing.
 use mathlib.Core.Path.{sym, ◌∙◌}
-use borrow.Author.Tests.{lt-ltb, le-ltb}
-use Rattle.std.proofs.lemmas.Result.{err_from_is_err_and}
-use Rattle.reader.specs.Read.{read_of, rest_of}
-use Rattle.reader.proofs.Sections.{section-most}
+use Rattle.reader.proofs.Full.{read-none, read-some}
 use Rattle.reader.proofs.read.read.Goals as goal
 
-pub returns-in_err-digital : goal.returns-in_err-digital
-unfolding read_of
-returns-in_err-digital c =
-    let p = err_from_is_err_and c.from_residual.result c.from_residual.ensures.1 in
-    rw (p.1, p.2) (simp (← c.blank_alarms.ensures, sym c.section_at.ensures ∙ c.in_err-digital.was))
+pub returns-in-empty : goal.returns-in-empty
+returns-in-empty c = rw (c.factory.ensures, read-none _ c.in-empty.len_below)
 
-pub section_at-requires-2 : goal.section_at-requires-2
-section_at-requires-2 c = section-most _ _ _ _ _ (sym c.section_at.ensures ∙ c.in_ok-digital.was)
-
-pub returns-in_err-analog : goal.returns-in_err-analog
-unfolding read_of rest_of
-returns-in_err-analog c =
-    let p = err_from_is_err_and c.from_residual-in_err-analog.result c.from_residual-in_err-analog.ensures.1 in
-    rw (p.1, p.2)
-    (simp (
-      ← c.blank_alarms.ensures,
-      sym c.section_at.ensures ∙ c.in_ok-digital.was,
-      sym c.section_at-2.ensures ∙ c.in_err-analog.was,
-    ))
-
-pub returns-then-end-image : goal.returns-then-end-image
-unfolding read_of rest_of
-returns-then-end-image c =
-    rw c.at.ensures
-    (simp (
-      ← c.blank_alarms.ensures,
-      sym c.section_at.ensures ∙ c.in_ok-digital.was,
-      sym c.section_at-2.ensures ∙ c.in_ok-analog.was,
-      lt-ltb _ _ c.if-end-image.true,
-    ))
-
-pub returns : goal.returns
-unfolding read_of rest_of
-returns c =
-    simp (
-      ← c.blank_alarms.ensures,
-      sym c.section_at.ensures ∙ c.in_ok-digital.was,
-      sym c.section_at-2.ensures ∙ c.in_ok-analog.was,
-      le-ltb _ _ c.if-end-image.false,
-    )
+pub returns-in_default : goal.returns-in_default
+returns-in_default c = c.read_sections.ensures ∙ sym (read-some _ c.in_default.len_at_least)
