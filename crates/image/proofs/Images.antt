@@ -38,23 +38,23 @@ length-analog flags g s period duration = ap suc (length-words (severity_words s
 
 module _ (form : Form) (alarms : List Alarm) (place end : ℕ) where
   -- the record of the first alarm of a run of places
-  abbrev first : List ℕ
-  first = record_bytes form (get_or alarms place blank)
+  abbrev first_record : List ℕ
+  first_record = record_bytes form (get_or alarms place blank)
 
   abbrev from : ℕ → List ℕ
   from p = records_bytes form (slice p end alarms)
 
-  pub records-first : place < end → end ≤ length alarms → from place ≡ first ++ from (place + 1)
+  pub records-first : place < end → end ≤ length alarms → from place ≡ first_record ++ from (place + 1)
   unfolding records_bytes
   records-first h k = ap (records_bytes form) (slice-cons place end alarms blank h k) ∙ rw add-one
 
-  pub length-first : place < end → end ≤ length alarms → length (from place) ≡ length first + length (from (place + 1))
-  length-first h k = ap length (records-first h k) ∙ length-append first (from (place + 1))
+  pub length-first : place < end → end ≤ length alarms → length (from place) ≡ length first_record + length (from (place + 1))
+  length-first h k = ap length (records-first h k) ∙ length-append first_record (from (place + 1))
 
   -- writing it and then the others is writing all
   pub sets_first : (out : List ℕ) (at : ℕ) → place < end → end ≤ length alarms
-      → sets (sets out at first) (at + length first) (from (place + 1)) ≡ sets out at (from place)
-  sets_first out at h k = sets-append out at first (from (place + 1)) ∙ ap (sets out at) (sym (records-first h k))
+      → sets (sets out at first_record) (at + length first_record) (from (place + 1)) ≡ sets out at (from place)
+  sets_first out at h k = sets-append out at first_record (from (place + 1)) ∙ ap (sets out at) (sym (records-first h k))
 
   pub records-none : end ≤ place → from place ≡ []
   unfolding records_bytes

@@ -1,13 +1,13 @@
 -- Settings that are read are written back to the same bytes; how long an accepted image is. Assumes nothing.
 use mathlib.Core.Path.{◌≡◌, refl, sym, ap, ap₂, subst, ◌∙◌}
 use mathlib.Core.List.{List, [], ◌∷◌, ◌++◌}
-use mathlib.Core.Bool.{true, cond}
+use mathlib.Core.Bool.{true}
 use Prim.Native.Nat.{ℕ, zero, suc, ◌+◌, ◌*◌, ◌≤◌, ◌<◌}
 use native.Mathlib.Nat.{add-zero, mul-zero, mul-suc, zero-add, le_refl}
 use native.Mathlib.Numerals.{add-one, one-add, lt-add-one}
 use native.Mathlib.Omega.{arith}
 use borrow.Author.Tests.{ltb-false, le-leb, lt-leb}
-use lib.Dec.{T, leb, ltb}
+use lib.Dec.{T, leb}
 use lib.ListN.{length, get_or, take, drop, set, length-set}
 use lib.Pow.{are_bytes}
 use lib.Seq.{slice, slice_empty, slice-cons, take-take, take-set-le, get_or-take, get_or-set_same, take_all, take_at}
@@ -18,13 +18,13 @@ use Rattle.settings.specs.Alarm.{blank, blanks, empty, factory}
 use Rattle.reader.specs.Count.{count_at}
 use Rattle.settings_record.specs.Record.{record_at, size_of}
 use Rattle.reader.specs.Section.{records_from, section_at}
-use Rattle.reader.specs.Read.{sections_of, rest_of, read_of, in_full, settings_of}
+use Rattle.reader.specs.Read.{sections_of, read_of, in_full, settings_of}
 use Rattle.image.specs.Internal.Write.{records_bytes, section_bytes, image_of, has_room, written_of, image_buffer}
 use Rattle.std.proofs.Common.{Ok, Err}
 use Rattle.std.specs.Result.{is_ok}
-use Rattle.settings.proofs.Followed.{ok-same, and-then-ok, spared, was-ok}
+use Rattle.settings.proofs.Followed.{ok-same, and-then-ok, was-ok}
 use Rattle.settings.specs.Refusals.{refusal}
-use Rattle.settings.specs.declared.refusals.Reason.TheVariants.{LeftOver, ImageTooLong}
+use Rattle.settings.specs.declared.refusals.Reason.TheVariants.{ImageTooLong}
 use Rattle.image.specs.Internal.RoundTrip.{RoundTrip}
 use Rattle.settings.specs.declared.types.Alarm.{Alarm}
 use Rattle.settings.specs.declared.types.Form.{Form}
@@ -32,7 +32,7 @@ use Rattle.settings.specs.declared.types.Form.TheVariants.{Digital as DigitalFor
 use Rattle.reader.specs.declared.section.Section.{Section}
 use Rattle.settings.specs.declared.types.Settings.{Settings}
 use Rattle.image.proofs.Inverse.{Inverse, inverse}
-use Rattle.reader.proofs.Sections.{count-read, records-count}
+use Rattle.reader.proofs.Sections.{count-read, records-count, both-read}
 use Rattle.reader.proofs.Full.{read-in-full, bytes-in-full, read-again, full-some}
 use Rattle.reader.proofs.Sound.{sound-settings}
 
@@ -163,19 +163,14 @@ module _ (image : List ℕ) (b : T (are_bytes image)) where
 
   -- an accepted image's length, and what is written back
   pub accepted : {s : Settings} → sections_of image ≡ Ok s → RoundTrip image s
-  unfolding sections_of rest_of blanks
+  unfolding blanks
   accepted e =
-      let f = and-then-ok (section_at DigitalForm image 0 0 blanks) (rest_of image) e in
-      let d = f.value in
-      let read : Section → Settings = λ a. record { counts = record { digital = d.count; analog = a.count }; alarms = a.alarms } in
-      let g = and-then-ok (section_at AnalogForm image d.count d.next d.alarms)
-      (λ a. cond (ltb a.next (length image)) (Err (refusal LeftOver a.next)) (Ok (read a))) f.follows in
-      let a = g.value in
-      let x = section-read DigitalForm image b 0 0 blanks (omega arith) f.was in
-      let y = section-read AnalogForm image b d.count d.next d.alarms (omega (arith, x.long, x.most)) g.was in
-      let end = spared (ltb a.next (length image)) (refusal LeftOver a.next) (read a) g.follows in
-      subst (RoundTrip image) end.1
-      (back-sections d.count a.count d.next a.next d.alarms a.alarms x y (ltb-false a.next (length image) end.0))
+      let r = both-read image e in
+      let d = r.digital in
+      let a = r.analog in
+      let x = section-read DigitalForm image b 0 0 blanks (omega arith) r.first in
+      let y = section-read AnalogForm image b d.count d.next d.alarms (omega (arith, x.long, x.most)) r.second in
+      subst (RoundTrip image) r.made (back-sections d.count a.count d.next a.next d.alarms a.alarms x y (ltb-false a.next (length image) r.ended))
 
 -- ---- what follows for the calls
 

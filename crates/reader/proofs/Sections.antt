@@ -1,4 +1,4 @@
--- Laws of the walk through a section's records. Assumes nothing.
+-- Laws of the walk through a section's records, and through both sections. Assumes nothing.
 use mathlib.Core.Path.{◌≡◌, refl, sym, ap}
 use mathlib.Core.List.{List}
 use mathlib.Core.Bool.{Bool, true, false, cond}
@@ -9,15 +9,19 @@ use borrow.Author.Tests.{ltb-true, leb-true}
 use lib.Dec.{leb, ltb}
 use lib.ListN.{length, get_or, set}
 use Rattle.std.proofs.Common.{Result, Ok, Err}
-use Rattle.settings.proofs.Followed.{ok-same, and-then-ok}
+use Rattle.settings.proofs.Followed.{ok-same, and-then-ok, spared}
 use Rattle.settings.specs.Refusals.{refusal}
 use Rattle.settings.specs.declared.refusals.Refusal.{Refusal}
-use Rattle.settings.specs.declared.refusals.Reason.TheVariants.{Incomplete, TooMany}
+use Rattle.settings.specs.declared.refusals.Reason.TheVariants.{Incomplete, TooMany, LeftOver}
 use Rattle.settings.specs.declared.types.Alarm.{Alarm}
 use Rattle.settings.specs.declared.types.Form.{Form}
+use Rattle.settings.specs.declared.types.Form.TheVariants.{Digital, Analog}
+use Rattle.settings.specs.declared.types.Settings.{Settings}
+use Rattle.settings.specs.Alarm.{blanks}
 use Rattle.settings_record.specs.Record.{record_at}
 use Rattle.reader.specs.Count.{count_at}
 use Rattle.reader.specs.Section.{records_from, section_at}
+use Rattle.reader.specs.Read.{sections_of, rest_of}
 use Rattle.reader.specs.declared.section.Section.{Section}
 
 module _ (form : Form) (image : List ℕ) (n : ℕ) where
@@ -79,3 +83,23 @@ section-most form image first at alarms {s} e =
     let f = and-then-ok (count_at image at) (λ c. records_from form image c.0 c.0 first c.1 alarms) e in
     let x : s.count ≡ f.value.0 = records-count form image f.value.0 f.value.0 first f.value.1 alarms f.follows in
     omega (arith, (count-read image at f.was).most)
+
+-- of an image that was read: both sections, that nothing is left over, and the settings that they make
+pub record BothRead (image : List ℕ) (s : Settings) : Type 0 where
+  pub digital : Section
+  pub analog : Section
+  pub first : section_at Digital image 0 0 blanks ≡ Ok digital
+  pub second : section_at Analog image digital.count digital.next digital.alarms ≡ Ok analog
+  pub ended : ltb analog.next (length image) ≡ false
+  pub made : record { counts = record { digital = digital.count; analog = analog.count }; alarms = analog.alarms } ≡ s
+
+pub both-read : (image : List ℕ) {s : Settings} → sections_of image ≡ Ok s → BothRead image s
+unfolding sections_of rest_of
+both-read image e =
+    let f = and-then-ok (section_at Digital image 0 0 blanks) (rest_of image) e in
+    let d = f.value in
+    let read : Section → Settings = λ a. record { counts = record { digital = d.count; analog = a.count }; alarms = a.alarms } in
+    let g = and-then-ok (section_at Analog image d.count d.next d.alarms)
+    (λ a. cond (ltb a.next (length image)) (Err (refusal LeftOver a.next)) (Ok (read a))) f.follows in
+    let end = spared (ltb g.value.next (length image)) (refusal LeftOver g.value.next) (read g.value) g.follows in
+    record { digital = d; analog = g.value; first = f.was; second = g.was; ended = end.0; made = end.1 }

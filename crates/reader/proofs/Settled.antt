@@ -1,24 +1,20 @@
 -- Where the alarms of an image stand after reading: each in its section's places, the places behind them blank. Assumes nothing.
 use mathlib.Core.Path.{◌≡◌, refl, sym, ap, subst, ◌∙◌}
 use mathlib.Core.List.{List}
-use mathlib.Core.Bool.{cond}
 use Prim.Native.Nat.{ℕ, zero, suc, ◌+◌, ◌≤◌, ◌<◌}
 use native.Mathlib.Nat.{lt_of_not-le}
 use native.Mathlib.Decide.{dec_le}
 use native.Mathlib.Omega.{arith}
 use borrow.Author.Tests.{lt-ltb, le-ltb}
-use lib.Dec.{ltb}
 use lib.ListN.{length, get_or, set, length-set, length-replicate, replicate}
 use lib.Seq.{get_or-set_same, get_or-set_other}
 use Rattle.std.proofs.Common.{Result, Ok, Err}
 use Rattle.std.specs.Result.{result_unwrap_or}
-use Rattle.settings.proofs.Followed.{ok-same, and-then-ok, spared}
+use Rattle.settings.proofs.Followed.{ok-same, and-then-ok}
 use Rattle.settings.specs.Counts.{in_all, form_at}
 use Rattle.settings.specs.Alarm.{blank, blanks, empty}
 use Rattle.settings.specs.Internal.Few.{Few}
-use Rattle.settings.specs.Refusals.{refusal}
 use Rattle.settings.specs.declared.refusals.Refusal.{Refusal}
-use Rattle.settings.specs.declared.refusals.Reason.TheVariants.{LeftOver}
 use Rattle.settings.specs.declared.types.Alarm.{Alarm}
 use Rattle.settings.specs.declared.types.Form.{Form}
 use Rattle.settings.specs.declared.types.Form.TheVariants.{Digital, Analog}
@@ -26,9 +22,9 @@ use Rattle.settings.specs.declared.types.Settings.{Settings}
 use Rattle.settings_record.specs.Record.{record_at}
 use Rattle.reader.specs.Count.{count_at}
 use Rattle.reader.specs.Section.{records_from, section_at}
-use Rattle.reader.specs.Read.{sections_of, rest_of, read_of, in_full, settings_of}
+use Rattle.reader.specs.Read.{sections_of, read_of, in_full, settings_of}
 use Rattle.reader.specs.declared.section.Section.{Section}
-use Rattle.reader.proofs.Sections.{count-read, records-count}
+use Rattle.reader.proofs.Sections.{count-read, records-count, both-read}
 use Rattle.reader.proofs.Full.{read-in-full}
 
 -- n places from `place` on hold alarms with a property; the others are as before
@@ -126,18 +122,15 @@ module _ (image : List ℕ) (P : Form → Alarm → Type 0)
           rw (lt-ltb i d k) (subst (P Digital) (sym (y.front i k)) (x.read i (omega arith) (omega arith)))
 
   settled-read : {s : Settings} → sections_of image ≡ Ok s → Settled P s
-  unfolding sections_of rest_of blanks
+  unfolding blanks
   settled-read e =
-      let f = and-then-ok (section_at Digital image 0 0 blanks) (rest_of image) e in
-      let d = f.value in
-      let read : Section → Settings = λ a. record { counts = record { digital = d.count; analog = a.count }; alarms = a.alarms } in
-      let g = and-then-ok (section_at Analog image d.count d.next d.alarms)
-      (λ a. cond (ltb a.next (length image)) (Err (refusal LeftOver a.next)) (Ok (read a))) f.follows in
-      let a = g.value in
-      let x = section-filling Digital image (P Digital) (each Digital) 0 0 blanks (omega (arith, length-replicate 24 blank)) f.was in
-      let y = section-filling Analog image (P Analog) (each Analog) d.count d.next d.alarms (omega (arith, x.0, x.1.long, length-replicate 24 blank)) g.was in
-      subst (Settled P) (spared (ltb a.next (length image)) (refusal LeftOver a.next) (read a) g.follows).1
-      (settled-both d.count a.count d.alarms a.alarms x.0 x.1 y.0 y.1)
+      let r = both-read image e in
+      let d = r.digital in
+      let a = r.analog in
+      let x = section-filling Digital image (P Digital) (each Digital) 0 0 blanks (omega (arith, length-replicate 24 blank)) r.first in
+      let long : d.count + 12 ≤ length d.alarms = omega (arith, x.0, x.1.long, length-replicate 24 blank) in
+      let y = section-filling Analog image (P Analog) (each Analog) d.count d.next d.alarms long r.second in
+      subst (Settled P) r.made (settled-both d.count a.count d.alarms a.alarms x.0 x.1 y.0 y.1)
 
 -- what every record of the image in full gives holds of the settings; refused ones have no alarms
 pub settled : (image : List ℕ) (P : Form → Alarm → Type 0)
