@@ -15,7 +15,7 @@ use Rattle.settings.proofs.Few.{good as counts-good}
 use Rattle.settings.specs.Condition.{Condition, In, conditions_of}
 use Rattle.std.proofs.Common.{Ok, Err}
 use Rattle.std.specs.Result.{is_ok}
-use Rattle.settings.specs.Refusals.{refusal}
+use Rattle.settings.specs.Refusals.{refusal, refused_by}
 use Rattle.settings.specs.declared.refusals.Reason.TheVariants.{ImageTooLong}
 use Rattle.settings.specs.declared.types.Kind.{Kind}
 use Rattle.settings.specs.declared.types.Kind.TheVariants.{Digital, Analog}
@@ -164,6 +164,7 @@ module _ (image : List ℕ) (calls : List Call) (good : Good image) where
       record {
         accepting = λ rec room. ap is_ok (lent-answer rec room);
         answer = lent-answer;
+        refused = λ rec room. ap refused_by (lent-answer rec room);
         buffer = λ rec out. buffer-on w fits rec out ∙ ap (λ (x : Bank). event_buffer x rec out) stands ∙ event-bytes-said rec out;
         suffices = λ rec room ok h. ap is_ok (to-bank rec room) ∙ suffices rec room ok h;
         report = lent-report;

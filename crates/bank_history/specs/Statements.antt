@@ -4,7 +4,7 @@ use Rattle.std.proofs.Math.Pow.{are_bytes}
 use Rattle.settings.specs.Counts.{in_all}
 use Rattle.settings.specs.Condition.{In, conditions_of}
 use Rattle.std.specs.Result.{IsOk, is_ok}
-use Rattle.settings.specs.Refusals.{refusal}
+use Rattle.settings.specs.Refusals.{refusal, refused_by}
 use Rattle.settings.specs.declared.refusals.Reason.TheVariants.{ImageTooLong}
 use Rattle.history.specs.Words.{Demand3}
 use Rattle.event.specs.Event.{events_enough}
@@ -44,6 +44,8 @@ module _ (image : List ℕ) (calls : List Call) where
     pub accepting : (rec : List ℕ) (room : ℕ) → is_ok (answer_of words rec room) ≡ accepts (settings_of image) records rec room
     -- its answer, and every byte of its event buffer
     pub answer : (rec : List ℕ) (room : ℕ) → answer_of words rec room ≡ answer_to (settings_of image) records rec room
+    -- number and place of the first refusal
+    pub refused : (rec : List ℕ) (room : ℕ) → refused_by (answer_of words rec room) ≡ refused_by (answer_to (settings_of image) records rec room)
     pub buffer : (rec out : List ℕ) → buffer_of words rec out ≡ buffer_after (settings_of image) records rec out
     -- with 3,840 bytes only 7 to 11 refuse
     pub suffices : (rec : List ℕ) (room : ℕ) → check_record (settings_of image).counts (last_accepted records) rec ≡ Ok tt → events_enough ≤ room

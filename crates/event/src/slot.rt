@@ -11,7 +11,7 @@ use settings::types::Form;
 use wire::choice::choose;
 
 // Where the severities begin among an alarm's words, two a word.
-const SEVERITIES: usize = 5;
+pub const SEVERITIES: usize = 5;
 
 // The number of the condition, 0 of a digital alarm and from 1 on of an analog one, and the severity that is stored for it. A number and no
 // enum: it is a byte of the record, counted from the place.

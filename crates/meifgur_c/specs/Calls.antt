@@ -3,7 +3,7 @@
 use Rattle.std.specs.Prelude.{ℕ, Bool, cond, List, [], ◌∷◌, ◌++◌, ltb, length, Option, None, Some, Result, Ok, Err, ⊤}
 use Rattle.std.specs.Result.{is_ok}
 use Rattle.std.proofs.lemmas.List.Edits.{sets}
-use Rattle.settings.specs.Internal.Replies.{number_of}
+use Rattle.settings.specs.Refusals.{number_of}
 use Rattle.settings.specs.declared.refusals.Refusal.{Refusal}
 use Rattle.settings.specs.declared.counts.Counts.{Counts}
 use Rattle.layout.specs.Internal.Block.{counts_in}

@@ -5,9 +5,35 @@
 use Rattle.std.specs.Prelude.{ℕ, Bool, cond, List, [], ◌∷◌, Result, Ok, Err}
 use Rattle.settings.specs.declared.refusals.Refusal.{Refusal}
 use Rattle.settings.specs.declared.refusals.Reason.{Reason}
+use Rattle.settings.specs.declared.refusals.Reason.TheVariants.{Incomplete, TooMany, UnknownFlag, OutOfRange, WrongLimits, LeftOver}
+use Rattle.settings.specs.declared.refusals.Reason.TheVariants.{WrongLength, EarlierTime, NotABit, BadReal, UnknownCommand}
+use Rattle.settings.specs.declared.refusals.Reason.TheVariants.{EventsTooLong, ImageTooLong, NoSuchAlarm, NoBank}
 
 abbrev pub refusal : Reason → ℕ → Refusal
 refusal reason place = record { reason = reason; place = place }
+
+-- document 01's number of each reason; 42: the lent words are no bank's
+abbrev pub number_of : Reason → ℕ
+number_of Incomplete = 1
+number_of TooMany = 2
+number_of UnknownFlag = 3
+number_of OutOfRange = 4
+number_of WrongLimits = 5
+number_of LeftOver = 6
+number_of WrongLength = 7
+number_of EarlierTime = 8
+number_of NotABit = 9
+number_of BadReal = 10
+number_of UnknownCommand = 11
+number_of EventsTooLong = 12
+number_of ImageTooLong = 13
+number_of NoSuchAlarm = 14
+number_of NoBank = 42
+
+-- what an answer says of a refusal: its number and its place, and nothing where nothing was refused
+abbrev pub refused_by : {A : Type 0} → Result A Refusal → List ℕ
+refused_by (Ok a) = []
+refused_by (Err r) = number_of r.reason ∷ r.place ∷ []
 
 -- what follows where nothing was refused; a refusal stays
 abbrev pub and_then : {A B : Type 0} → Result A Refusal → (A → Result B Refusal) → Result B Refusal

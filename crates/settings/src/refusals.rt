@@ -1,7 +1,6 @@
 // Why a call is turned back, and where.
 ghost use Rattle.std.specs.Prelude.{◌≡◌};
-ghost use Rattle.settings.specs.Refusals.{refusal};
-ghost use Rattle.settings.specs.Internal.Replies.{number_of};
+ghost use Rattle.settings.specs.Refusals.{number_of, refusal};
 
 // The reasons, as document 01's table has them: a name, a number, and what the place is.
 #[derive(Clone, Copy)]
