@@ -4,20 +4,20 @@ ghost use Rattle.call_text.specs.Internal.Call.{IsComment, room_of};
 
 use crate::fault::{BadLine, Fault};
 use crate::words::Words;
-use std::alloc::Global;
 use text::pieces::LONGEST_LINE;
 
-#[derive(Drop)]
-pub enum Call {
-    Settings { image: Vec<u8> },
-    Scan { room: usize, record: Vec<u8> },
+// What a line asks for. The bytes that it spells stand in a block that is lent for them.
+#[derive(Clone, Copy)]
+pub enum Call<'a> {
+    Settings { image: &'a [u8] },
+    Scan { room: usize, record: &'a [u8] },
     Report { alarm: usize },
     Write { room: usize },
 }
 
 // Reads a line: the name of a call, and a word for each thing that it hands on. An empty line, or one that begins with `#`, is a comment:
-// it asks for nothing.
-pub fn parse(alloc: Global, line: &[u8]) -> Result<Option<Call>, BadLine>
+// it asks for nothing. The bytes that it spells come to `block`.
+pub fn parse<'a>(line: &[u8], block: &'a mut Vec<u8>) -> Result<Option<Call<'a>>, BadLine>
     ensures too_long { LONGEST_LINE < length line.now → IsErrOf result BadLine.TooLong }
     ensures comment { (result ≡ Ok None) ↔ ((length line.now ≤ LONGEST_LINE) × IsComment line.now) }
     ensures room { IfOk result (λ asked. room_of asked ≤ 65536) }
@@ -31,14 +31,14 @@ pub fn parse(alloc: Global, line: &[u8]) -> Result<Option<Call>, BadLine>
     let mut words = Words::new(line);
     let call = match words.next_word() {
         Some(b"settings") => Call::Settings {
-            image: words.bytes(alloc)?,
+            image: words.bytes(block)?,
         },
         Some(b"scan") => {
             let room = words.room()?;
             words.no_role()?;
             Call::Scan {
                 room,
-                record: words.bytes(alloc)?,
+                record: words.bytes(block)?,
             }
         }
         Some(b"report") => Call::Report {

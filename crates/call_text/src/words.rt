@@ -1,11 +1,11 @@
 // The words of a line, one or more spaces apart, and what they spell.
-ghost use Rattle.std.specs.Prelude.{◌≡◌, ◌≢◌, ℕ, ◌^◌, ◌<◌, ◌≤◌, ◌↔◌, All, length, IsNone, IfSome, SomeIff, IfOk, Vec, option_map};
+ghost use Rattle.std.specs.Prelude.{◌≡◌, ◌≢◌, ℕ, ◌^◌, ◌<◌, ◌≤◌, ◌↔◌, All, length, IsNone, IfSome, SomeIff, IfOk, None, Some, cond};
 ghost use Rattle.std.specs.Result.{result_ok};
 ghost use Rattle.std.specs.Str.Parse.{IsNumeral, digits_value};
 ghost use Rattle.hex.specs.Hex.{decode_of};
 
 use crate::fault::{BadLine, Fault, MOST_ROOM};
-use std::alloc::{AllocError, Global};
+use std::alloc::AllocError;
 
 #[derive(Clone, Copy)]
 pub(crate) struct Words<'a> {
@@ -78,13 +78,17 @@ impl<'a> Words<'a> {
         }
     }
 
-    // Bytes in pairs of hexadecimal digits, or `-` for none.
-    pub(crate) fn bytes(&mut self, alloc: Global) -> Result<Vec<u8>, BadLine> {
+    // Bytes in pairs of hexadecimal digits, or `-` for none. They come to `block`.
+    pub(crate) fn bytes<'b>(&mut self, block: &'b mut Vec<u8>) -> Result<&'b [u8], BadLine> {
         let digits = match self.needed_word()? {
             b"-" => b"",
             word => word,
         };
-        bytes(alloc, digits)?.ok_or(self.bad(Fault::NoBytes))
+        if put_bytes(digits, block)? {
+            Ok(block.as_slice())
+        } else {
+            Err(self.bad(Fault::NoBytes))
+        }
     }
 
     // The line's end.
@@ -109,13 +113,11 @@ fn number(word: &[u8]) -> Option<usize>
     }
 }
 
-// The bytes that pairs of hexadecimal digits spell.
-fn bytes(alloc: Global, digits: &[u8]) -> Result<Option<Vec<u8>>, AllocError>
-    ensures { IfOk result (λ found. option_map (λ (v : Vec ℕ Global). v.items) found ≡ result_ok (decode_of digits.now)) }
+// Whether digits are pairs of hexadecimal ones. The bytes that they spell are all that `block` then has.
+fn put_bytes(digits: &[u8], block: &mut Vec<u8>) -> Result<bool, AllocError>
+    ensures { IfOk result (λ found. result_ok (decode_of digits.now) ≡ cond found (Some block.new.items) None) }
 {
-    let mut bytes = vec![in alloc; 0; digits.len() / 2]?;
-    match hex::decode_to_slice(digits, bytes.as_mut_slice()) {
-        Ok(()) => Ok(Some(bytes)),
-        Err(_) => Ok(None),
-    }
+    block.clear();
+    block.resize(digits.len() / 2, 0)?;
+    Ok(hex::decode_to_slice(digits, block.as_mut_slice()).is_ok())
 }

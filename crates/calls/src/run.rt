@@ -48,7 +48,9 @@ impl Session {
         ensures unchanged { (LONGEST_LINE < length line.now) ⊎ IsComment line.now → self.new ≡ self.old }
         ensures pattern { self.new.pattern ≡ self.old.pattern }
     {
-        match parse(self.alloc, line) {
+        // what the line spells
+        let mut block = Vec::new(self.alloc);
+        match parse(line, &mut block) {
             Ok(None) => output.write_all(line)?,
             Ok(Some(call)) => self.answer_call(call, output)?,
             Err(BadLine::Memory(error)) => return Err(Failure::from(error)),
@@ -58,11 +60,11 @@ impl Session {
         Ok(())
     }
 
-    fn answer_call<W: Write>(&mut self, call: Call, output: &mut W) -> Result<(), Failure>
+    fn answer_call<W: Write>(&mut self, call: Call<'_>, output: &mut W) -> Result<(), Failure>
         ensures { self.new.pattern ≡ self.old.pattern }
     {
         match call {
-            Call::Settings { image } => match self.bank.load(&image) {
+            Call::Settings { image } => match self.bank.load(image) {
                 Ok(()) => write!(output, "ok {}", self.bank.alarms())?,
                 Err(refusal) => write_refused(output, refusal)?,
             },
@@ -75,7 +77,7 @@ impl Session {
             },
             Call::Scan { room, record } => {
                 let mut events = self.pattern.lend(self.alloc, room)?;
-                let answer = self.bank.scan(&record, events.as_mut_slice());
+                let answer = self.bank.scan(record, events.as_mut_slice());
                 self.write_lent(output, answer, EVENT_SIZE, &events)?;
             }
             Call::Write { room } => {
