@@ -27,7 +27,7 @@ fn load_blocks(
     ensures marks_after { marks.new ≡ replicate marks_size 0 }
 {
     let given = read(image);
-    put_settings(settings, given.unwrap_or(no_alarms()));
+    put_settings(settings, given.unwrap_or_else(|_| no_alarms()));
     clear(states);
     clear(marks);
     given.map(|_| ())

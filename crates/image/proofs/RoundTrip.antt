@@ -17,7 +17,7 @@ use Rattle.settings.proofs.Few.{good}
 use Rattle.settings.specs.Alarm.{blank, blanks, empty, factory}
 use Rattle.reader.specs.Count.{count_at}
 use Rattle.settings_record.specs.Record.{record_at, size_of}
-use Rattle.reader.specs.Section.{records_from, section_at}
+use Rattle.reader.specs.Section.{Section, records_from, section_at}
 use Rattle.reader.specs.Read.{sections_of, read_of, in_full, settings_of}
 use Rattle.image.specs.Internal.Write.{records_bytes, section_bytes, image_of, has_room, written_of, image_buffer}
 use Rattle.std.proofs.Common.{Ok, Err}
@@ -29,7 +29,6 @@ use Rattle.image.specs.Internal.RoundTrip.{RoundTrip}
 use Rattle.settings.specs.declared.types.Alarm.{Alarm}
 use Rattle.settings.specs.declared.types.Form.{Form}
 use Rattle.settings.specs.declared.types.Form.TheVariants.{Digital as DigitalForm, Analog as AnalogForm}
-use Rattle.reader.specs.declared.section.Section.{Section}
 use Rattle.settings.specs.declared.types.Settings.{Settings}
 use Rattle.image.proofs.Inverse.{Inverse, inverse}
 use Rattle.reader.proofs.Sections.{count-read, records-count, both-read}

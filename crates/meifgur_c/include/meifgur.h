@@ -80,7 +80,7 @@ extern "C" {
  * Bytes of stack, measured on a full bank and rounded up (host/c/stack.c measures them). A scan whose event buffer might be
  * too short runs on copies, and uses what SCAN_SHORT says. REPLAY is of the longer of the two ways.
  */
-#define MEIFGUR_LOAD_STACK 10240u
+#define MEIFGUR_LOAD_STACK 6144u
 #define MEIFGUR_SCAN_STACK 1024u
 #define MEIFGUR_SCAN_SHORT_STACK 17408u
 #define MEIFGUR_REPORT_STACK 1024u

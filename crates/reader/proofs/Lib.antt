@@ -1,4 +1,5 @@
 pub mod Sections
+pub mod Alarms
 pub mod Settled
 pub mod Sound
 mod Examples

@@ -20,14 +20,13 @@ use Rattle.settings.specs.declared.types.Settings.{Settings}
 use Rattle.settings.specs.Alarm.{blanks}
 use Rattle.settings_record.specs.Record.{record_at}
 use Rattle.reader.specs.Count.{count_at}
-use Rattle.reader.specs.Section.{records_from, section_at}
+use Rattle.reader.specs.Section.{Section, records_from, section_at}
 use Rattle.reader.specs.Read.{sections_of, rest_of}
-use Rattle.reader.specs.declared.section.Section.{Section}
+
+pub one_left : {place end : ℕ} → place < end → end - place ≡ suc (end - (place + 1))
+one_left h = omega arith
 
 module _ (form : Form) (image : List ℕ) (n : ℕ) where
-  one_left : {place end : ℕ} → place < end → end - place ≡ suc (end - (place + 1))
-  one_left h = omega arith
-
   pub records-next : {place end : ℕ} (at : ℕ) (alarms : List Alarm) {a : Alarm} {next : ℕ} → place < end → record_at form image at ≡ Ok (a, next)
       → records_from form image n (end - place) place at alarms ≡ records_from form image n (end - (place + 1)) (place + 1) next (set alarms place a)
   unfolding records_from

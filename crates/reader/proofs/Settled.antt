@@ -21,9 +21,8 @@ use Rattle.settings.specs.declared.types.Form.TheVariants.{Digital, Analog}
 use Rattle.settings.specs.declared.types.Settings.{Settings}
 use Rattle.settings_record.specs.Record.{record_at}
 use Rattle.reader.specs.Count.{count_at}
-use Rattle.reader.specs.Section.{records_from, section_at}
+use Rattle.reader.specs.Section.{Section, records_from, section_at}
 use Rattle.reader.specs.Read.{sections_of, read_of, in_full, settings_of}
-use Rattle.reader.specs.declared.section.Section.{Section}
 use Rattle.reader.proofs.Sections.{count-read, records-count, both-read}
 use Rattle.reader.proofs.Full.{read-in-full}
 

@@ -10,8 +10,7 @@ use Rattle.settings.specs.declared.refusals.Refusal.{Refusal}
 use Rattle.settings.specs.declared.refusals.Reason.TheVariants.{LeftOver}
 use Rattle.settings.specs.declared.types.Settings.{Settings}
 use Rattle.settings.specs.declared.types.Form.TheVariants.{Digital, Analog}
-use Rattle.reader.specs.Section.{section_at}
-use Rattle.reader.specs.declared.section.Section.{Section}
+use Rattle.reader.specs.Section.{Section, section_at}
 
 -- after the digital section: the analog section, then nothing more (6 at the first byte left over)
 unfoldable pub rest_of : List ℕ → Section → Result Settings Refusal

@@ -6,7 +6,12 @@ use Rattle.settings.specs.Refusals.{and_then}
 use Rattle.settings.specs.declared.refusals.Refusal.{Refusal}
 use Rattle.settings.specs.declared.types.Alarm.{Alarm}
 use Rattle.settings.specs.declared.types.Form.{Form}
-use Rattle.reader.specs.declared.section.Section.{Section}
+
+-- a section that was read: the alarms with its own in their places, how many these are, and the offset past it
+pub record Section : Type 0 where
+  pub alarms : List Alarm
+  pub count : ℕ
+  pub next : ℕ
 
 -- a section of n alarms, of which k are left to read, the next at offset `at` and for the place `place`
 unfoldable pub records_from : Form → List ℕ → ℕ → ℕ → ℕ → ℕ → List Alarm → Result Section Refusal

@@ -11,23 +11,13 @@ use settings::types::{Form, Settings, blank_alarms, factory};
 fn read_sections(image: &[u8]) -> Result<Settings, Refusal>
     ensures { result ≡ sections_of image.now }
 {
-    let digital = section_at(image, 0, Form::Digital, 0, blank_alarms())?;
-    let analog = section_at(
-        image,
-        digital.next,
-        Form::Analog,
-        digital.count,
-        digital.alarms,
-    )?;
-    let end = analog.next;
+    let mut alarms = blank_alarms();
+    let (digital, next) = section_at(image, 0, Form::Digital, 0, &mut alarms)?;
+    let (analog, end) = section_at(image, next, Form::Analog, digital, &mut alarms)?;
     if end < image.len() {
         return Err(Reason::LeftOver.at(end));
     }
-    let counts = Counts {
-        digital: digital.count,
-        analog: analog.count,
-    };
-    let alarms = analog.alarms;
+    let counts = Counts { digital, analog };
     Ok(Settings { counts, alarms })
 }
 

@@ -105,14 +105,14 @@ fn factory_alarm() -> Alarm
     }
 }
 
-// The settings of a receiver that was given none: twelve digital alarms. It has a frame of its own, which other images do not pay for.
+// The settings of a receiver that was given none: twelve digital alarms. It has a frame of its own, which other images do not use.
 #[cold]
 #[inline(never)]
 pub fn factory() -> Settings
     ensures { result ≡ factory }
 {
     let mut alarms = blank_alarms();
-    alarms[..MOST].copy_from_slice(&[factory_alarm(); MOST]);
+    alarms[..MOST].fill(factory_alarm());
     let counts = Counts {
         digital: MOST,
         analog: 0,

@@ -9,7 +9,7 @@ use borrow.Author.Tests.{le-leb, lt-leb}
 use lib.ListN.{length, get_or, drop}
 use lib.Seq.{get_or-take, get_or-drop}
 use Rattle.std.specs.Prelude.{Result}
-use Rattle.std.proofs.Common.{Ok, Err}
+use Rattle.std.proofs.Common.{Err}
 use Rattle.wire.specs.Number.{part}
 use Rattle.wire.proofs.Laws.{part-part}
 use Rattle.settings.specs.Refusals.{checked, refusal}
@@ -19,7 +19,7 @@ use Rattle.settings.specs.declared.types.Form.TheVariants.{Digital as DigitalFor
 use Rattle.settings.specs.declared.refusals.Refusal.{Refusal}
 use Rattle.settings.specs.declared.refusals.Reason.TheVariants.{Incomplete}
 use Rattle.settings_record.specs.Record.{size_of, severities_at, limits_at, fields_at, checks_of, record_at}
-use Rattle.settings_record.specs.Internal.Whole.{whole_record}
+use Rattle.settings_record.specs.Internal.Whole.{whole_record, along}
 
 module _ (image : List ℕ) (at n : ℕ) where
   byte-cut : 0 < n → get_or (part image at n) 0 0 ≡ get_or image at 0
@@ -51,11 +51,6 @@ fields-cut AnalogForm image at =
       w 13 (omega arith),
       w 14 (omega arith),
     )
-
--- what was read, with a number beside it
-abbrev pub along : {A : Type 0} → ℕ → Result A Refusal → Result (A × ℕ) Refusal
-along n (Ok x) = Ok (x, n)
-along n (Err e) = Err e
 
 checked-along : {A : Type 0} (row : List (Refusal × Bool)) (x : A) (n : ℕ) → checked row (x, n) ≡ along n (checked row x)
 unfolding checked

@@ -4,7 +4,7 @@ ghost use Rattle.wire.specs.Number.{part};
 ghost use Rattle.settings.specs.Refusals.{refusal};
 ghost use Rattle.settings.specs.declared.refusals.Reason.TheVariants.{Incomplete};
 ghost use Rattle.settings_record.specs.Record.{limits_at, severities_at, record_at};
-ghost use Rattle.settings_record.specs.Internal.Whole.{whole_record};
+ghost use Rattle.settings_record.specs.Internal.Whole.{whole_record, along};
 
 use crate::fields::{
     ANALOG_DURATION, ANALOG_SIZE, DEADBAND, DIGITAL_DURATION, DIGITAL_SIZE, LIMIT_H, LIMIT_HH,
@@ -50,9 +50,14 @@ fn limits_at(bytes: &[u8; ANALOG_SIZE]) -> Limits
     }
 }
 
-// The checks of a digital record that is there whole. No function for both forms is plainer: they read, check and keep other fields.
-fn digital_record(bytes: &[u8; DIGITAL_SIZE], at: usize) -> Result<Alarm, Refusal>
-    ensures { result ≡ whole_record Form.Digital bytes.now at }
+// The checks of a digital record that is there whole. `past`, the offset past it, goes with the alarm here already: to take an alarm out of one
+// `Result` and put it into another costs a copy. No function for both forms is plainer: they read, check and keep other fields.
+fn digital_record(
+    bytes: &[u8; DIGITAL_SIZE],
+    at: usize,
+    past: usize,
+) -> Result<(Alarm, usize), Refusal>
+    ensures { result ≡ along past (whole_record Form.Digital bytes.now at) }
 {
     let flags = bytes[0];
     let severity = u32::get(bytes, SEVERITY);
@@ -64,16 +69,21 @@ fn digital_record(bytes: &[u8; DIGITAL_SIZE], at: usize) -> Result<Alarm, Refusa
         return Err(Reason::OutOfRange.at(at));
     }
     let kind = Kind::Digital { severity };
-    Ok(Alarm {
+    let alarm = Alarm {
         flags,
         duration,
         kind,
-    })
+    };
+    Ok((alarm, past))
 }
 
 // The checks of an analog record that is there whole.
-fn analog_record(bytes: &[u8; ANALOG_SIZE], at: usize) -> Result<Alarm, Refusal>
-    ensures { result ≡ whole_record Form.Analog bytes.now at }
+fn analog_record(
+    bytes: &[u8; ANALOG_SIZE],
+    at: usize,
+    past: usize,
+) -> Result<(Alarm, usize), Refusal>
+    ensures { result ≡ along past (whole_record Form.Analog bytes.now at) }
 {
     let flags = bytes[0];
     let severities = severities_at(bytes);
@@ -94,11 +104,12 @@ fn analog_record(bytes: &[u8; ANALOG_SIZE], at: usize) -> Result<Alarm, Refusal>
         severities,
         period,
     };
-    Ok(Alarm {
+    let alarm = Alarm {
         flags,
         duration,
         kind,
-    })
+    };
+    Ok((alarm, past))
 }
 
 // The bytes of a record, as many as the caller takes, or the refusal where they don't stand there whole. Image and offset are two parameters,
@@ -118,13 +129,7 @@ pub fn record_at(image: &[u8], at: usize, form: Form) -> Result<(Alarm, usize), 
     ensures { result ≡ record_at form image.now at }
 {
     match form {
-        Form::Digital => {
-            let alarm = digital_record(bytes_at(image, at)?, at)?;
-            Ok((alarm, at + DIGITAL_SIZE))
-        }
-        Form::Analog => {
-            let alarm = analog_record(bytes_at(image, at)?, at)?;
-            Ok((alarm, at + ANALOG_SIZE))
-        }
+        Form::Digital => digital_record(bytes_at(image, at)?, at, at + DIGITAL_SIZE),
+        Form::Analog => analog_record(bytes_at(image, at)?, at, at + ANALOG_SIZE),
     }
 }

@@ -5,4 +5,4 @@ use Rattle.settings.proofs.types.factory.Goals as goal
 
 pub returns : goal.returns
 unfolding blanks factory
-returns c = rw (c.copy_from_slice.ensures.after, c.factory_alarm.ensures, c.blank_alarms-alarms.ensures) refl
+returns c = rw (c.fill.ensures.after (λ y e. e), c.factory_alarm.ensures, c.blank_alarms-alarms.ensures) refl

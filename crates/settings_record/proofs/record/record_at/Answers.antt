@@ -1,5 +1,5 @@
 -- `settings_record::record::record_at` meets its contract: what its form's function makes of the bytes that were cut out. Assumes nothing.
-use mathlib.Core.Path.{sym, ◌∙◌}
+use mathlib.Core.Path.{refl, sym, ◌∙◌}
 use Rattle.std.proofs.lemmas.Result.{err_from_is_err_and}
 use Rattle.settings.specs.declared.types.Form.TheVariants.{Digital as DigitalForm, Analog as AnalogForm}
 use Rattle.settings_record.proofs.Cut.{record-cut, record-short}
@@ -11,18 +11,9 @@ returns-in_err-bytes_at-in-Digital c =
     let p = err_from_is_err_and c.from_residual.result c.from_residual.ensures.1 in
     rw (p.1, p.2, c.in-Digital.is, e.1) (sym (record-short DigitalForm c.args.image.now c.args.at e.0))
 
-pub returns-in_err-alarm-in-Digital : goal.returns-in_err-alarm-in-Digital
-returns-in_err-alarm-in-Digital c =
-    let a = c.args in
-    let refused = sym c.digital_record.ensures ∙ c.in_err-alarm-in-Digital.was in
-    let p = err_from_is_err_and c.from_residual-in_err-alarm-in-Digital.result c.from_residual-in_err-alarm-in-Digital.ensures.1 in
-    rw (p.1, p.2, c.in-Digital.is) (sym (record-cut DigitalForm a.image.now a.at c.in_ok-bytes_at-in-Digital.ensures.whole refused))
-
-pub returns-in_ok-alarm-in-Digital : goal.returns-in_ok-alarm-in-Digital
-returns-in_ok-alarm-in-Digital c =
-    let a = c.args in
-    let read = sym c.digital_record.ensures ∙ c.in_ok-alarm-in-Digital.was in
-    rw c.in-Digital.is (sym (record-cut DigitalForm a.image.now a.at c.in_ok-bytes_at-in-Digital.ensures.whole read))
+pub returns-in_ok-bytes_at-in-Digital : goal.returns-in_ok-bytes_at-in-Digital
+returns-in_ok-bytes_at-in-Digital c =
+    rw c.in-Digital.is (c.digital_record.ensures ∙ sym (record-cut DigitalForm c.args.image.now c.args.at c.in_ok-bytes_at-in-Digital.ensures.whole refl))
 
 pub returns-in_err-bytes_at-in-Analog : goal.returns-in_err-bytes_at-in-Analog
 returns-in_err-bytes_at-in-Analog c =
@@ -30,15 +21,6 @@ returns-in_err-bytes_at-in-Analog c =
     let p = err_from_is_err_and c.from_residual-in_err-bytes_at-in-Analog.result c.from_residual-in_err-bytes_at-in-Analog.ensures.1 in
     rw (p.1, p.2, c.in-Analog.is, e.1) (sym (record-short AnalogForm c.args.image.now c.args.at e.0))
 
-pub returns-in_err-alarm-in-Analog : goal.returns-in_err-alarm-in-Analog
-returns-in_err-alarm-in-Analog c =
-    let a = c.args in
-    let refused = sym c.analog_record.ensures ∙ c.in_err-alarm-in-Analog.was in
-    let p = err_from_is_err_and c.from_residual-in_err-alarm-in-Analog.result c.from_residual-in_err-alarm-in-Analog.ensures.1 in
-    rw (p.1, p.2, c.in-Analog.is) (sym (record-cut AnalogForm a.image.now a.at c.in_ok-bytes_at-in-Analog.ensures.whole refused))
-
-pub returns-in_ok-alarm-in-Analog : goal.returns-in_ok-alarm-in-Analog
-returns-in_ok-alarm-in-Analog c =
-    let a = c.args in
-    let read = sym c.analog_record.ensures ∙ c.in_ok-alarm-in-Analog.was in
-    rw c.in-Analog.is (sym (record-cut AnalogForm a.image.now a.at c.in_ok-bytes_at-in-Analog.ensures.whole read))
+pub returns-in_ok-bytes_at-in-Analog : goal.returns-in_ok-bytes_at-in-Analog
+returns-in_ok-bytes_at-in-Analog c =
+    rw c.in-Analog.is (c.analog_record.ensures ∙ sym (record-cut AnalogForm c.args.image.now c.args.at c.in_ok-bytes_at-in-Analog.ensures.whole refl))
