@@ -1,1 +1,2 @@
 mod Failures
+mod Rows

@@ -4,3 +4,4 @@
 pub mod console;
 pub mod failure;
 pub mod pieces;
+pub mod row;
