@@ -6,6 +6,7 @@ use settings::refusals::Refusal;
 use settings::types::Form;
 use std::fmt;
 use std::ops::Range;
+use text::row::Row;
 
 // A refusal, by its number and place.
 #[derive(Clone, Copy)]
@@ -14,8 +15,10 @@ pub struct Refused(pub Refusal);
 impl fmt::Display for Refused {
     fn fmt<W: fmt::Write>(&self, f: &mut fmt::Formatter<W>) -> fmt::Result {
         let Refusal { reason, place } = self.0;
-        let number = reason.number();
-        write!(f, "refused {number} {place}")
+        let row = Row {
+            numbers: [u64::from(reason.number()), place as u64],
+        };
+        write!(f, "refused {row}")
     }
 }
 

@@ -10,6 +10,7 @@ use event::write::EVENT_SIZE;
 use report::status::Status;
 use std::io::Write;
 use std::{fmt, io};
+use text::row::Row;
 use wire::number::LittleEndian;
 
 // What the line of an event record says: time, alarm, condition, kind, severity, suppressed.
@@ -24,10 +25,17 @@ impl fmt::Display for Event<'_> {
         let [alarm, condition, kind, suppressed, ..] = *record;
         let severity = u16::get(record, 4);
         let time = u64::get(record, 8);
-        write!(
-            f,
-            "{time} {alarm} {condition} {kind} {severity} {suppressed}"
-        )
+        let row = Row {
+            numbers: [
+                time,
+                u64::from(alarm),
+                u64::from(condition),
+                u64::from(kind),
+                u64::from(severity),
+                u64::from(suppressed),
+            ],
+        };
+        write!(f, "{row}")
     }
 }
 
@@ -59,13 +67,16 @@ impl fmt::Display for Standing {
             condition,
             status,
         } = *self;
-        let in_alarm = u8::from(status.alarm);
-        let unacknowledged = u8::from(!status.acked);
-        let count = status.count;
-        write!(
-            f,
-            "end {alarm} {condition} {in_alarm} {unacknowledged} {count}"
-        )
+        let row = Row {
+            numbers: [
+                alarm as u64,
+                condition as u64,
+                u64::from(status.alarm),
+                u64::from(!status.acked),
+                status.count,
+            ],
+        };
+        write!(f, "end {row}")
     }
 }
 
