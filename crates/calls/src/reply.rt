@@ -1,9 +1,15 @@
 // What the calls answer, as text.
 use bank_text::show::condition_numbers;
+use hex::encode_to_slice;
 use report::report::AlarmReport;
 use settings::types::Form;
 use std::fmt;
+use std::str::from_utf8;
+use text::row::Row;
 use wire::real::to_pattern;
+
+// How many bytes are written as one piece.
+const CHUNK: usize = 256;
 
 // What a call wrote: a number, and bytes in pairs of hexadecimal digits, or `-` where there are none.
 #[derive(Clone, Copy)]
@@ -19,9 +25,16 @@ impl fmt::Display for Written<'_> {
         if self.bytes.is_empty() {
             write!(f, "-")?;
         }
-        // The crate `hex` would take memory for the text, its own or a caller's.
-        for byte in self.bytes {
-            write!(f, "{byte:02x}")?;
+        let mut digits = [0; 2 * CHUNK];
+        for chunk in self.bytes.chunks(CHUNK) {
+            let pairs = &mut digits[..2 * chunk.len()];
+            let Ok(()) = encode_to_slice(chunk, pairs) else {
+                unreachable!();
+            };
+            let Ok(text) = from_utf8(pairs) else {
+                unreachable!();
+            };
+            f.write_str(text)?;
         }
         Ok(())
     }
@@ -37,29 +50,33 @@ pub struct Report {
 impl fmt::Display for Report {
     fn fmt<W: fmt::Write>(&self, f: &mut fmt::Formatter<W>) -> fmt::Result {
         let alarm = self.found.alarm;
-        write!(
-            f,
-            "ok {} {} {} {} {} {:08x} {} {}",
-            u8::from(alarm.enabled),
-            u8::from(alarm.suppressed),
-            u8::from(alarm.infaulted),
-            u8::from(alarm.severityinv),
-            self.found.resettime,
-            to_pattern(alarm.rate),
-            alarm.high,
-            alarm.low,
-        )?;
+        let modes = Row {
+            numbers: [
+                u64::from(alarm.enabled),
+                u64::from(alarm.suppressed),
+                u64::from(alarm.infaulted),
+                u64::from(alarm.severityinv),
+                self.found.resettime,
+            ],
+        };
+        let rate = to_pattern(alarm.rate);
+        let runs = Row {
+            numbers: [alarm.high, alarm.low],
+        };
+        write!(f, "ok {modes} {rate:08x} {runs}")?;
         for (number, status) in condition_numbers(self.form).zip(&self.found.conditions) {
-            write!(
-                f,
-                " / {number} {} {} {} {} {} {}",
-                u8::from(status.alarm),
-                u8::from(status.acked),
-                status.count,
-                status.alarmtime,
-                status.returntime,
-                status.acktime,
-            )?;
+            let condition = Row {
+                numbers: [
+                    number as u64,
+                    u64::from(status.alarm),
+                    u64::from(status.acked),
+                    status.count,
+                    status.alarmtime,
+                    status.returntime,
+                    status.acktime,
+                ],
+            };
+            write!(f, " / {condition}")?;
         }
         Ok(())
     }
