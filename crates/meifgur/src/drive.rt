@@ -18,15 +18,19 @@ use text::console::Console;
 use text::failure::Failure;
 use text::pieces::Pieces;
 
-// Runs a scan record, and writes its events or its refusal.
-fn answer_record<W: Write>(bank: &mut Bank, bytes: &[u8], output: &mut W) -> Result<(), Failure>
+// Runs a scan record, and writes its events or its refusal. The events' buffer is lent to every scan, and what an earlier one left in it is
+// never written.
+fn answer_record<W: Write>(
+    bank: &mut Bank,
+    bytes: &[u8],
+    events: &mut [u8; EVENTS_ENOUGH],
+    output: &mut W,
+) -> Result<(), Failure>
     ensures { IfOk (answer_of (words_of bank.old) bytes.now events_enough)
         (λ number. OnOk result (Appends (W.contents output.old) (W.contents output.new)
         (event_lines (scan_events (words_of bank.old) bytes.now number)))) }
 {
-    // A rule of the project: an array, lent to every scan.
-    let mut events = [0; EVENTS_ENOUGH];
-    match bank.scan(bytes, &mut events) {
+    match bank.scan(bytes, events) {
         Ok(number) => write_events(output, &events[..number * EVENT_SIZE])?,
         Err(refusal) => writeln!(output, "{}", Refused(refusal))?,
     }
@@ -57,8 +61,10 @@ fn answer_all<R: Read + Drop, W: Write + Drop>(
         return Ok(());
     }
     let records = Pieces::Records(record_length(bank.counts()));
+    // A rule of the project: an array, lent to every scan. It is made once, since to fill it with zeros takes about as long as a short scan.
+    let mut events = [0; EVENTS_ENOUGH];
     console.answer_pieces(alloc, records, |record, output| {
-        answer_record(&mut bank, record, output)
+        answer_record(&mut bank, record, &mut events, output)
     })?;
     write_conditions(&mut console.output, &bank)?;
     Ok(())
