@@ -1,7 +1,7 @@
 -- The public statements hold. Assumes nothing.
 use mathlib.Core.Path.{◌≡◌, refl, sym, ap, ap₂, subst, ◌∙◌}
 use mathlib.Core.Bool.{Bool, true, false, not, ◌&&◌, cond}
-use mathlib.Core.List.{List, [], ◌++◌, map}
+use mathlib.Core.List.{List, [], ◌∷◌, ◌++◌, map}
 use Prim.Native.Nat.{ℕ, zero, suc, ◌-◌, ◌≤◌, ◌<◌}
 use native.Mathlib.Omega.{arith}
 use borrow.Author.Tests.{le-leb, leb-true}
@@ -13,9 +13,10 @@ use Rattle.alarm_history.specs.Scans.{Scan}
 use Rattle.settings.specs.Counts.{in_all}
 use Rattle.settings.proofs.Few.{good as counts-good}
 use Rattle.settings.specs.Condition.{Condition, In, conditions_of}
-use Rattle.std.proofs.Common.{Ok, Err}
+use Rattle.std.proofs.Common.{Result, Ok, Err}
 use Rattle.std.specs.Result.{is_ok}
 use Rattle.settings.specs.Refusals.{refusal, refused_by}
+use Rattle.settings.specs.declared.refusals.Refusal.{Refusal}
 use Rattle.settings.specs.declared.refusals.Reason.TheVariants.{ImageTooLong}
 use Rattle.settings.specs.declared.types.Kind.{Kind}
 use Rattle.settings.specs.declared.types.Kind.TheVariants.{Digital, Analog}
@@ -24,7 +25,7 @@ use Rattle.history.specs.Demand.{in_alarm, unacknowledged, count}
 use Rattle.history.specs.Words.{Demand3}
 use Rattle.history.proofs.Demand.{demand}
 use Rattle.reader.specs.Read.{settings_of}
-use Rattle.image.specs.Internal.Write.{image_of, written_of, image_buffer}
+use Rattle.image.specs.Internal.Write.{image_of, written_of, write_of, image_buffer}
 use Rattle.image.proofs.RoundTrip as RoundTrip
 use Rattle.reader.proofs.Sound.{sound-settings}
 use Rattle.scan_record.specs.Check.{check_record}
@@ -34,7 +35,7 @@ use Rattle.scan.specs.Internal.Scan.{alarms_of, scan_of, event_buffer}
 use Rattle.bank.specs.Lent.{Words}
 use Rattle.bank.specs.Internal.Words.{fit_of, bank_in}
 use Rattle.scan.specs.Internal.Words.{answer_of}
-use Rattle.report.specs.Empty.{no_status, no_statuses, no_report}
+use Rattle.report.specs.Empty.{no_status, no_statuses, no_report, refused_report}
 use Rattle.report.specs.Internal.Report.{is_there, report_at, report_of, report_in}
 use Rattle.report.specs.declared.status.Status.{Status}
 use Rattle.report.specs.declared.report.AlarmReport.{AlarmReport}
@@ -65,6 +66,18 @@ status-at (Analog limits severities period) f (suc (suc (suc (suc (suc (suc i)))
 not-not : (b : Bool) → not (not b) ≡ b
 not-not true = refl
 not-not false = refl
+
+-- the numbers of a refused report and of a refused write
+report-number : (there : Bool) (a : Alarm) (scans : List Scan)
+    → refused_by (cond there (alarm_report a scans) no_report).reply ≡ cond there [] (14 ∷ 0 ∷ [])
+unfolding no_report refused_report
+report-number true a scans = refl
+report-number false a scans = refl
+
+write-number : (fits : Bool) (n : ℕ)
+    → refused_by (cond {A = Result ℕ Refusal} fits (Ok n) (Err (refusal ImageTooLong 0))) ≡ cond fits [] (13 ∷ 0 ∷ [])
+write-number true n = refl
+write-number false n = refl
 
 module _ (image : List ℕ) (calls : List Call) (good : Good image) where
   abbrev s : Settings
@@ -159,6 +172,9 @@ module _ (image : List ℕ) (calls : List Call) (good : Good image) where
   lent-report : (n : ℕ) → report_in w n ≡ report_after s past n
   lent-report n = report-on w fits n ∙ ap (λ (x : Bank). report_of x n) stands ∙ report-said n
 
+  lent-write : (room : ℕ) → write_of w.settings room ≡ cond (leb (length full) room) (Ok (length full)) (Err (refusal ImageTooLong 0))
+  lent-write room = write-on w fits room ∙ ap (λ (x : Bank). written_of x.settings room) stands ∙ write-said room
+
   replies : Replies image calls
   replies =
       record {
@@ -168,7 +184,10 @@ module _ (image : List ℕ) (calls : List Call) (good : Good image) where
         buffer = λ rec out. buffer-on w fits rec out ∙ ap (λ (x : Bank). event_buffer x rec out) stands ∙ event-bytes-said rec out;
         suffices = λ rec room ok h. ap is_ok (to-bank rec room) ∙ suffices rec room ok h;
         report = lent-report;
-        write = λ room. write-on w fits room ∙ ap (λ (x : Bank). written_of x.settings room) stands ∙ write-said room;
+        report-refused = λ n. ap (λ (r : AlarmReport). refused_by r.reply) (lent-report n)
+            ∙ report-number (leb 1 n && leb n (in_all s.counts)) (alarm_at s (n - 1)) (scans_at s (n - 1) past);
+        write = lent-write;
+        write-refused = λ room. ap refused_by (lent-write room) ∙ write-number (leb (length full) room) (length full);
         image-written = λ out. written_on w fits out ∙ ap (λ (x : Bank). image_buffer x.settings out) stands ∙ written-said out;
       }
 

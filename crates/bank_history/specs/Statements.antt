@@ -1,5 +1,5 @@
 -- The public statements: what every list of calls gives, from an accepted settings image on, and demand 3.
-use Rattle.std.specs.Prelude.{ℕ, ◌-◌, ◌≤◌, ◌<◌, ◌≡◌, true, not, cond, List, [], ◌++◌, T, leb, length, get_or, drop, Ok, Err}
+use Rattle.std.specs.Prelude.{ℕ, ◌-◌, ◌≤◌, ◌<◌, ◌≡◌, true, not, cond, ◌&&◌, List, [], ◌∷◌, ◌++◌, T, leb, length, get_or, drop, Ok, Err}
 use Rattle.std.proofs.Math.Pow.{are_bytes}
 use Rattle.settings.specs.Counts.{in_all}
 use Rattle.settings.specs.Condition.{In, conditions_of}
@@ -52,8 +52,10 @@ module _ (image : List ℕ) (calls : List Call) where
         → is_ok (answer_of words rec room) ≡ true
     -- a report
     pub report : (n : ℕ) → report_in words n ≡ report_after (settings_of image) records n
+    pub report-refused : (n : ℕ) → refused_by (report_in words n).reply ≡ cond (leb 1 n && leb n (in_all (settings_of image).counts)) [] (14 ∷ 0 ∷ [])
     -- the writer: the image in full, or 13
     pub write : (room : ℕ) → write_of words.settings room ≡ cond (leb (length whole) room) (Ok (length whole)) (Err (refusal ImageTooLong 0))
+    pub write-refused : (room : ℕ) → refused_by (write_of words.settings room) ≡ cond (leb (length whole) room) [] (13 ∷ 0 ∷ [])
     pub image-written : (out : List ℕ) → write_buffer words.settings out ≡ cond (leb (length whole) (length out)) (whole ++ drop (length whole) out) out
 
 -- every reply and every byte, for every list of calls
