@@ -12,7 +12,7 @@ use std::io;
 use text::failure::{Failure, tell};
 
 fn run(rt: &HostRuntime) -> Result<(), Failure> {
-    let Some(image) = read_image(rt, "bank.set")? else {
+    let Some(image) = read_image(rt, "bank.set") else {
         return Ok(());
     };
     drive(rt.alloc(), &image, rt.stdin(), io::writer(rt))
